@@ -1,0 +1,4 @@
+pub mod Checking
+pub mod Models
+pub mod Asking
+pub mod Loading
