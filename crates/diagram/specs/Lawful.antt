@@ -2,7 +2,7 @@
 --     at nodes r                             the node that the reference r names
 --     names leaves nodes r                   r names one of so many leaves or of so many nodes
 --     later n nodes c r                      r names a leaf, or a node whose condition stands later than c
---     branch-is-lawful d leaves nodes j r    r may be a branch of node j: it names a leaf, or an earlier node whose condition stands later
+--     branch-is-lawful d leaves nodes j r    r may be a branch of node j: a leaf, or a node before j that tests a later condition
 --     node-is-lawful d leaves nodes j        node j tests a condition of the domain and both its branches are lawful
 --     Lawful d leaves nodes                  every node is
 use mathlib.Core.Path.{_≡_}

@@ -1,4 +1,4 @@
--- A state is a whole number: its bit of weight 2^i is condition i.
+-- A state is a whole number, and its bits are the values of the conditions, condition 0 in the lowest.
 --     bit i s           condition i is 1 in the state s
 --     bits-from i n s   the bits of s at i, i + 1, .., n of them
 use mathlib.Core.Bool.{Bool}

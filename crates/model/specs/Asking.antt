@@ -1,6 +1,6 @@
 -- What a model says of its states.
 --     reward-at n l s          the reward of the state s, from the lists l of a model of n conditions
---     chance-at n l a i s      the chance, in ten-thousandths, that condition i is 1 after the move a from the state s
+--     chance-at n l a i s      how many times in 10,000 the move a from the state s leaves condition i at 1
 --     Told b x r               r is x where b holds, and else the refusal of a number that is out of range
 use mathlib.Core.Path.{_≡_}
 use mathlib.Core.Bool.{Bool, true, false, _&&_}

@@ -1,15 +1,17 @@
 -- A model, and what checking a draft comes to.
 --     lists-of x              the lists that the model x holds
 --     IsModel n m b l x       x has n conditions, m moves, the discount b and the lists l
+--     blank-lists             the lists of the model from which a caller starts: one reward and one chance, both 0, and no node
 --     long-enough d l         the lists have all entries that the draft counts
 --     cut d l                 the entries that the draft counts
 --     check-tests d l         the tests of a draft over its lists, in their order
 --     Checks d l x x′ r       r is the answer of those tests; the caller's model x becomes the draft's, x′, or stays
 use mathlib.Core.Path.{_≡_}
 use mathlib.Core.Bool.{Bool, _&&_}
-use mathlib.Core.List.{List, _∷_, map}
+use mathlib.Core.List.{List, [], _∷_, map}
 use Prim.Native.Nat.{ℕ, _+_, _*_}
 use lib.Dec.{leb}
+use lib.IntN.{pos}
 use lib.ListN.{length, take}
 use Rattle.std.specs.declared.result.Result.{Result}
 use Rattle.std.specs.Results.{Cases}
@@ -31,6 +33,9 @@ pub record IsModel (n m b : ℕ) (l : Lists) (x : Model) : Type 0 where
   pub moves : x .moves ≡ m
   pub discount : x .discount ≡ b
   pub lists : lists-of x ≡ l
+
+abbrev pub blank-lists : Lists
+blank-lists = five (pos 0 ∷ []) (0 ∷ []) [] [] (0 ∷ 0 ∷ [])
 
 abbrev pub root-count : Draft → ℕ
 root-count d = 1 + d .moves * d .conditions

@@ -24,7 +24,7 @@ pub fn load(
 {
     let draft = read(file, rewards, chances, reward_nodes, chance_nodes, roots)?;
     let mut model = Model::blank();
-    check(
+    let verdict = check(
         draft,
         rewards,
         chances,
@@ -32,6 +32,7 @@ pub fn load(
         chance_nodes,
         roots,
         &mut model,
-    )?;
+    );
+    verdict?;
     Ok(draft)
 }

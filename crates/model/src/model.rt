@@ -9,10 +9,13 @@ ghost use Rattle.model_file.specs.Reading.{five};
 ghost use Rattle.model.specs.Checking.{model-tests};
 use diagram::nodes::Node;
 
-mod ask;
 mod blank;
+mod chance;
 pub mod check;
 mod limits;
+mod reward;
+mod sizes;
+mod state;
 mod verdicts;
 
 #[derive(Clone, Copy)]

@@ -1,3 +1,4 @@
 pub mod Written
 pub mod Stored
 pub mod Progress
+pub mod Once

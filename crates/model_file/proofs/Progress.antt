@@ -24,6 +24,11 @@ use Rattle.model_file.specs.Fields.{tag, body, body-length, whole, right-lengt
 use Rattle.model_file.specs.Reading.{Lists, Taken, nothing, all-written, room-of, took, has-room, room-test, field-tests, draft-of, Reads, ReadInto, five}
 use Rattle.model_file.specs.Reading.Reads.{ends, lacks, refuses, takes}
 use Rattle.model_file.specs.Marks.{mark-of, Stored, Unstored}
+use Rattle.model_file.proofs.Once.{reads-once}
+
+-- a reading is the only one
+into : (file : List ℕ) (old now : Lists) (r : Result Draft Fault) (t : Taken) → Reads (room-of old) nothing file r t → now ≡ all-written (t .lists) old → ReadInto file old now r
+into file old now r t reads lists = record { taken = t; reads = reads; lists = lists; only = λ q u d. reads-once reads d }
 
 pub record Progress (file : List ℕ) (old now : Lists) (mark : Mark) : Type 0 where
   pub taken : Taken
@@ -75,7 +80,7 @@ module _ (file : List ℕ) (old now : Lists) (mark : Mark) (p : Progress file ol
   -- a field is refused for its shape
   pub misshapen : (f : FileFault) → Shape (Some f) → ReadInto file old now (Err (File f))
   misshapen f h =
-      record { taken = p .taken; reads = p .onward _ _ (refuses more (then-some (shape-tests (p .taken .place) (p .taken .last) (p .taken .conditions) (p .taken .moves) from) (room-test (room-of old) (p .taken) from ∷ []) f (at-taken (Some f) h))); lists = p .held }
+      into file old now _ (p .taken) (p .onward _ _ (refuses more (then-some (shape-tests (p .taken .place) (p .taken .last) (p .taken .conditions) (p .taken .moves) from) (room-test (room-of old) (p .taken) from ∷ []) f (at-taken (Some f) h)))) (p .held)
 
   module _ (k : ℕ) (b : List ℕ) (kind : k ≡ tag rest) (holds : b ≡ body rest) (shape : Shape None) (long : room-of now ≡ room-of old) where
     room-at : (v : Bool) → has-room (room-of now) (p .taken .lists) k b ≡ v → has-room (room-of old) (p .taken .lists) (tag from) (body from) ≡ v
@@ -90,11 +95,7 @@ module _ (file : List ℕ) (old now : Lists) (mark : Mark) (p : Progress file ol
     -- a field has no room
     pub unroomed : (now′ : Lists) (f : FileFault) → Unstored k b (p .taken) now now′ f → ReadInto file old now′ (Err (File f))
     unroomed now′ f u =
-        record {
-          taken = p .taken;
-          reads = p .onward _ _ (refuses more (decided false (u .room) ∙ ap Some (sym (u .named))));
-          lists = u .kept ∙ p .held;
-        }
+        into file old now′ _ (p .taken) (p .onward _ _ (refuses more (decided false (u .room) ∙ ap Some (sym (u .named))))) (u .kept ∙ p .held)
 
     -- a field is stored
     pub advanced : (now′ : Lists) (next : Mark) → Stored k b (p .taken) old now now′ next → Progress file old now′ next × (mark .place < next .place)
@@ -126,7 +127,7 @@ finished file old now mark p end six =
     let t = p .taken in
     let empty : drop (t .place) file ≡ [] = drop-all (t .place) file (omega (arith, ap (λ m. m .place) (p .marked))) in
     let whole′ : Reads (room-of old) t (drop (t .place) file) (Ok (draft-of t)) t = subst (λ z. Reads (room-of old) t z (Ok (draft-of t)) t) (sym empty) (ends (sym (ap (λ m. m .last) (p .marked)) ∙ six)) in
-    record { taken = t; reads = subst (λ m. Reads (room-of old) nothing file (Ok (m .draft)) t) (sym (p .marked)) (p .onward _ _ whole′); lists = p .held }
+    into file old now _ (t) (subst (λ m. Reads (room-of old) nothing file (Ok (m .draft)) t) (sym (p .marked)) (p .onward _ _ whole′)) (p .held)
 
 pub unfinished : (file : List ℕ) (old now : Lists) (mark : Mark) → Progress file old now mark → length file ≤ mark .place → (mark .last ≡ 6 → ⊥) → ReadInto file old now (Err (File (NoRoots (length file))))
 unfinished file old now mark p end six =
@@ -135,8 +136,4 @@ unfinished file old now mark p end six =
     let empty : drop (t .place) file ≡ [] = drop-all (t .place) file (omega arith) in
     let all : t .place ≡ length file = omega (arith, p .within) in
     let lacking : Reads (room-of old) t [] (Err (File (NoRoots (t .place)))) t = lacks (λ e. six (ap (λ m. m .last) (p .marked) ∙ e)) in
-    record {
-      taken = t;
-      reads = p .onward _ _ (subst (λ z. Reads (room-of old) t z (Err (File (NoRoots (length file)))) t) (sym empty) (subst (λ n. Reads (room-of old) t [] (Err (File (NoRoots n))) t) all lacking));
-      lists = p .held;
-    }
+    into file old now _ (t) (p .onward _ _ (subst (λ z. Reads (room-of old) t z (Err (File (NoRoots (length file)))) t) (sym empty) (subst (λ n. Reads (room-of old) t [] (Err (File (NoRoots n))) t) all lacking))) (p .held)

@@ -6,7 +6,7 @@
 --     has-room room t k b         the list of the tag k has room for the entries of b
 --     field-tests room t rest     the tests of the next field, in their order
 --     Reads room t rest r t′      from t on, the rest of the file is answered by r, and t′ is what was read
---     ReadInto file old now r     the whole file is answered by r, and the lists, which held `old`, hold `now`: what was read, written from their starts
+--     ReadInto file old now r     the whole file is answered by r, and the lists, which held `old`, hold `now`: what was read, written from their starts. No other answer and no other reading fits the file
 use mathlib.Core.Path.{_≡_}
 use mathlib.Core.Bool.{Bool, true, cond}
 use mathlib.Core.List.{List, [], _∷_, _++_}
@@ -120,3 +120,4 @@ pub record ReadInto (file : List ℕ) (old now : Lists) (r : Result Draft Fault)
   pub taken : Taken
   pub reads : Reads (room-of old) nothing file r taken
   pub lists : now ≡ all-written (taken .lists) old
+  pub only : (q : Result Draft Fault) (u : Taken) → Reads (room-of old) nothing file q u → (r ≡ q) × (taken ≡ u)

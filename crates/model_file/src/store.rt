@@ -3,7 +3,7 @@ ghost use mathlib.Core.Path.{_≡_};
 ghost use Prim.Native.Nat.{_+_, _<_, _^_};
 ghost use lib.ListN.{length};
 ghost use Rattle.model_file.specs.Fields.{tag-of, body-of};
-ghost use Rattle.model_file.specs.Marks.{Stores};
+ghost use Rattle.model_file.specs.Marks.{with-sizes, Stores};
 ghost use Rattle.model_file.specs.Reading.{five};
 use crate::append::append;
 use crate::draft::Draft;
@@ -15,6 +15,20 @@ use crate::field::Field;
 use crate::mark::Mark;
 use diagram::nodes::Node;
 use faults::FileFault;
+
+// The draft with the sizes that the first field has.
+fn sized(draft: Draft, body: &[u8]) -> Draft
+    requires { ⌜ length (now body) ≡ 4 ⌝ }
+    ensures { λ r. ⌜ r ≡ with-sizes draft (now (body .entry)) ⌝ }
+{
+    let discount = body[2] as u16 * 256 + body[3] as u16;
+    Draft {
+        conditions: body[0],
+        moves: body[1],
+        discount,
+        ..draft
+    }
+}
 
 // Stores a field in the lists and gives the mark after it, or refuses a field for which a list is too short.
 pub fn store(
@@ -35,77 +49,42 @@ pub fn store(
 {
     let draft = mark.draft;
     match field {
-        Field::Sizes { body, place: _ } => {
-            let discount = body[2] as u16 * 256 + body[3] as u16;
-            let draft = Draft {
-                conditions: body[0],
-                moves: body[1],
-                discount,
-                ..draft
-            };
-            Ok(Mark {
-                place: mark.place + (3 + body.len()),
-                last: 1,
-                draft,
-                roots: mark.roots,
-            })
-        }
+        Field::Sizes { body, place: _ } => Ok(mark.after(1, body, sized(draft, body), mark.roots)),
         Field::Rewards { body, place: _ } => {
-            let draft = Draft {
-                rewards: append(rewards, draft.rewards, body)?,
-                ..draft
-            };
-            Ok(Mark {
-                place: mark.place + (3 + body.len()),
-                last: 2,
-                draft,
-                roots: mark.roots,
-            })
+            let rewards = append(rewards, draft.rewards, body)?;
+            Ok(mark.after(2, body, Draft { rewards, ..draft }, mark.roots))
         }
         Field::Chances { body, place: _ } => {
-            let draft = Draft {
-                chances: append(chances, draft.chances, body)?,
-                ..draft
-            };
-            Ok(Mark {
-                place: mark.place + (3 + body.len()),
-                last: 3,
-                draft,
-                roots: mark.roots,
-            })
+            let chances = append(chances, draft.chances, body)?;
+            Ok(mark.after(3, body, Draft { chances, ..draft }, mark.roots))
         }
         Field::RewardNodes { body, place: _ } => {
-            let draft = Draft {
-                reward_nodes: append(reward_nodes, draft.reward_nodes, body)?,
-                ..draft
-            };
-            Ok(Mark {
-                place: mark.place + (3 + body.len()),
-                last: 4,
-                draft,
-                roots: mark.roots,
-            })
+            let reward_nodes = append(reward_nodes, draft.reward_nodes, body)?;
+            Ok(mark.after(
+                4,
+                body,
+                Draft {
+                    reward_nodes,
+                    ..draft
+                },
+                mark.roots,
+            ))
         }
         Field::ChanceNodes { body, place: _ } => {
-            let draft = Draft {
-                chance_nodes: append(chance_nodes, draft.chance_nodes, body)?,
-                ..draft
-            };
-            Ok(Mark {
-                place: mark.place + (3 + body.len()),
-                last: 5,
-                draft,
-                roots: mark.roots,
-            })
+            let chance_nodes = append(chance_nodes, draft.chance_nodes, body)?;
+            Ok(mark.after(
+                5,
+                body,
+                Draft {
+                    chance_nodes,
+                    ..draft
+                },
+                mark.roots,
+            ))
         }
         Field::Roots { body, place: _ } => {
             let roots = append(roots, mark.roots, body)?;
-            Ok(Mark {
-                place: mark.place + (3 + body.len()),
-                last: 6,
-                draft,
-                roots,
-            })
+            Ok(mark.after(6, body, draft, roots))
         }
     }
 }

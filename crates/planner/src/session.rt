@@ -9,6 +9,15 @@ use std::io::BufWriter;
 use std::io::Read;
 use std::io::Write;
 
+// A line without its line end, which may be that of another system.
+fn without_end(line: &[u8]) -> &[u8] {
+    match line {
+        [text @ .., b'\r', b'\n'] => text,
+        [text @ .., b'\n'] => text,
+        _ => line,
+    }
+}
+
 #[derive(Drop)]
 pub struct Session<I: Read + Drop, O: Write + Drop> {
     heap: Global,
@@ -44,7 +53,7 @@ impl<I: Read + Drop, O: Write + Drop> Session<I, O> {
 
     // The line read last, without its end. Bytes that are no text show as the sign for that.
     pub fn text(&self) -> io::Result<String> {
-        Ok(String::from_utf8_lossy(self.heap, self.line.as_slice().trim_ascii_end())?)
+        Ok(String::from_utf8_lossy(self.heap, without_end(self.line.as_slice()))?)
     }
 
     pub fn count(&mut self) {

@@ -1,4 +1,5 @@
 // A lawful model of one condition and one move, from which a caller starts.
+ghost use Rattle.model.specs.Models.{blank-lists, IsModel};
 use crate::model::Model;
 
 static REWARDS: [i64; 1] = [0];
@@ -9,7 +10,9 @@ static ROOTS: [u32; 2] = [0, 0];
 
 impl<'a> Model<'a> {
     // One condition, one move, discount one half, every reward and chance 0.
-    pub fn blank() -> Model<'a> {
+    pub fn blank() -> Model<'a>
+        ensures { λ r. ⌜ IsModel 1 1 5000 blank-lists r ⌝ }
+    {
         Model {
             conditions: 1,
             moves: 1,
