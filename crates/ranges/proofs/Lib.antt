@@ -1,0 +1,3 @@
+pub mod Multiples
+pub mod Quotients
+pub mod Mixes
