@@ -1,0 +1,10 @@
+pub mod Scaled
+pub mod Bits
+pub mod Sums
+pub mod Stages
+pub mod Gathers
+pub mod Steps
+pub mod Contained
+pub mod Narrowed
+pub mod Certificates
+pub mod Examples

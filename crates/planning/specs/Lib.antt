@@ -1,0 +1,6 @@
+pub mod Models
+pub mod Values
+pub mod Passes
+pub mod Draws
+pub mod Histories
+pub mod Lock
