@@ -78,7 +78,7 @@ pub record Follows (n leaves : ℕ) (nodes : List Node) (s r next : ℕ) : Type 
   pub earlier : next < r
   pub same : leaf-of n nodes next s ≡ leaf-of n nodes r s
 
-earlier-names : (leaves j k r : ℕ) → j ≤ k → names leaves j r ≡ true → (names leaves k r ≡ true) × (65536 ≤ r → r < 65536 + j)
+pub earlier-names : (leaves j k r : ℕ) → j ≤ k → names leaves j r ≡ true → (names leaves k r ≡ true) × (65536 ≤ r → r < 65536 + j)
 earlier-names leaves j k r le h = grind (arith, tells)
 
 -- what is lawful in a node that tests condition i of n

@@ -6,7 +6,7 @@ ghost use lib.ListN.{length, getD};
 ghost use Rattle.diagram.specs.States.{bit};
 ghost use Rattle.diagram.specs.Lawful.{names, Lawful};
 ghost use Rattle.diagram.specs.Order.{states};
-ghost use Rattle.diagram.specs.Reads.{branch, value-in, leaf-of};
+ghost use Rattle.diagram.specs.Reads.{branch, value-in, leaf-of, TablesAreFollowed};
 use crate::conditions::Condition;
 use crate::nodes::FIRST_NODE;
 use crate::nodes::Node;
@@ -50,4 +50,10 @@ pub fn look<L: Copy>(conditions: u8, leaves: &[L], nodes: &[Node], root: u32, st
     ensures found { λ r. ⌜ r ≡ getD (now (leaves .entry)) (leaf-of conditions (now (nodes .entry)) root state) r ⌝ }
 {
     leaves[leaf_number(conditions, leaves.len(), nodes, root, state) as usize]
+}
+
+// Reading a lawful table level by level is following, from each node, its branch for the state.
+pub fn tables_are_followed()
+    ensures { λ _. ⌜ TablesAreFollowed ⌝ }
+{
 }

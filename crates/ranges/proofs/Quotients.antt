@@ -1,9 +1,9 @@
 -- What rounding down and up mean: the divisor times the quotient is the nearest multiple on that side.
 use mathlib.Core.Path.{_≡_, refl}
 use Prim.Native.Nat.{ℕ, _+_, _*_, _/_, _<_, _≤_}
-use native.Mathlib.Nat.{div-le-self, mul-add, mul-suc, mul-div-le, lt-mul-div-succ}
+use native.Mathlib.Nat.{mul-add, mul-suc, mul-div-le, lt-mul-div-succ}
 use native.Mathlib.Omega.{arith}
-use borrow.Author.Differences.{ints, sum-is, neg-is, le-out, lt-out, at-most-in, below-in}
+use borrow.Author.Differences.{sum-is, neg-is, le-out, lt-out, at-most-in, below-in}
 use lib.IntN.{ℤ, pos, negsuc, negℤ, _+ℤ_}
 use lib.Signed.{_≤ℤ_, _<ℤ_}
 use Rattle.ranges.specs.Whole.{_·_, floor, ceiling}
@@ -44,8 +44,3 @@ floor-laws d some z r e = rw e (floor-below d some z, floor-next d some z)
 
 pub ceiling-laws : (d : ℕ) → 0 < d → (z r : ℤ) → r ≡ ceiling d z → (z ≤ℤ (d · r)) × ((d · r) <ℤ (z +ℤ pos d))
 ceiling-laws d some z r e = rw e (ceiling-above d some z, ceiling-next d some z)
-
--- rounding a negative number down by a whole divisor brings it no further from zero
-pub floor-least : (d m : ℕ) (z : ℤ) → negℤ (pos m) ≤ℤ z → negℤ (pos m) ≤ℤ floor d z
-floor-least d m (pos a) h = omega (arith, ints)
-floor-least d m (negsuc a) h = omega (arith, ints, div-le-self a d)

@@ -1,25 +1,20 @@
-use mathlib.Core.Path.{_≡_, sym, ap, subst, _∙_}
-use native.Mathlib.Omega.{arith}
-use lib.IntN.{ℤ, _*ℤ_}
+use mathlib.Core.Path.{_≡_}
+use borrow.Author.Needs.{needs}
 use mir.Syntax.{w64}
 use mir.Val.{SFits, toZ, ofZ}
 use Rattle.std.proofs.shelf.Signed.{toZ-ofZ}
 use Rattle.ranges.specs.Whole.{_·_}
-use Rattle.ranges.proofs.Mixes.{multiple-fits}
+use Rattle.ranges.proofs.Mixes.{multiple-low, multiple-high}
 use Rattle.ranges.proofs.multiple.multiple_of.Needs as need
 
-product : (c : need.After-from) → toZ w64 (ofZ w64 (c .from .result)) *ℤ toZ w64 (ofZ w64 (c .args .z)) ≡ c .args .k · c .args .z
+pub product-requires : need.product-requires
 unfolding _·_
-product c =
-    let fz : SFits w64 (c .args .z) = c .fits .z in
-    let fk : SFits w64 (c .from .result) = record { sfits = c .from .ok } in
-    simp toZ-ofZ (ap (λ (x : ℤ). x *ℤ c .args .z) (c .from .ensures))
-
-fits : (c : need.After-from) → SFits w64 (c .args .k · c .args .z)
-fits c = multiple-fits (c .args .k) (c .args .z) (omega arith) (c .pre .low) (c .pre .high)
-
-pub mul-result : need.mul-result
-mul-result c = subst (SFits w64) (sym (product c)) (fits c)
+product-requires c κs =
+    let fits : SFits w64 (c .args .z) = c .fits .z in
+    simp toZ-ofZ (record { low = multiple-low _ _ (c .pre .low); high = multiple-high _ _ (c .pre .high) })
 
 pub returns : need.returns
-returns c = ap (λ x. toZ w64 (ofZ w64 x)) (product c) ∙ toZ-ofZ w64 _ (fits c)
+unfolding _·_
+returns c =
+    let e : toZ w64 (ofZ w64 (c .product .result)) ≡ c .args .k · c .args .z = search needs in
+    record { value = e; least = rw e (multiple-low _ _ (c .pre .low)); greatest = rw e (multiple-high _ _ (c .pre .high)) }
