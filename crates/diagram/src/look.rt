@@ -55,5 +55,4 @@ pub fn look<L: Copy>(conditions: u8, leaves: &[L], nodes: &[Node], root: u32, st
 // Reading a lawful table level by level is following, from each node, its branch for the state.
 pub fn tables_are_followed()
     ensures { λ _. ⌜ TablesAreFollowed ⌝ }
-{
-}
+{}

@@ -1,0 +1,4 @@
+pub mod Listed
+pub mod Walk
+pub mod Canonical
+pub mod Hashing

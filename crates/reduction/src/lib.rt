@@ -1,0 +1,16 @@
+// The one reduced table of a function, and that it stands for that function alone.
+ghost use Rattle.reduction.specs.Canonical.{TablesReadBack, TablesAreCanonical};
+use crate::interned::Interned;
+
+pub mod interned;
+pub mod unique;
+
+// A reduced table is lawful and reads back its function.
+pub fn tables_read_back<L: Interned>()
+    ensures { λ _. ⌜ TablesReadBack (L·Interned .equal) ⌝ }
+{}
+
+// Functions are equal exactly when their reduced tables are.
+pub fn tables_are_canonical<L: Interned>()
+    ensures { λ _. ⌜ TablesAreCanonical (L·Interned .equal) ⌝ }
+{}
