@@ -44,11 +44,11 @@ pub above-more : (n leaves k : ℕ) (ns ns′ : List Node) (r : ℕ) → Grown n
 above-more n leaves k ns ns′ r g h a large = subst (λ x. k ≤ level n (x .condition)) (sym (named-same leaves ns ns′ r g h large)) (a large)
 
 -- what a reference does at one level
-data Down (n : ℕ) (ns : List Node) (k : ℕ) (b : Bool) (r : ℕ) : Type 0 where
+pub data Down (n : ℕ) (ns : List Node) (k : ℕ) (b : Bool) (r : ℕ) : Type 0 where
   stays : tests n ns k r ≡ false → descend n ns k b r ≡ r → Down n ns k b r
   goes : 65536 ≤ r → level n (named ns r .condition) ≡ k → descend n ns k b r ≡ branch b (named ns r) → Down n ns k b r
 
-down : (n : ℕ) (ns : List Node) (k : ℕ) (b : Bool) (r : ℕ) → Down n ns k b r
+pub down : (n : ℕ) (ns : List Node) (k : ℕ) (b : Bool) (r : ℕ) → Down n ns k b r
 down n ns k b r =
     ⊎-elim
     (λ yes. let p = and-parts (leb 65536 r) (eqb (level n (named ns r .condition)) k) yes in goes (leb-true 65536 r (p .0)) (eqb-true (level n (named ns r .condition)) k (p .1)) (cond-true _ _ _ yes))
@@ -62,7 +62,7 @@ module _ (n leaves : ℕ) (ns : List Node) (lawful : Lawful (both n) leaves ns) 
       let q = and-parts _ _ (p .1) in
       elim b as (λ v. branch-is-lawful (both n) leaves ns (r - 65536) (branch v (named ns r)) ≡ true) [ true ↦ q .0 | false ↦ q .1 ]
 
-  exists-named : (r : ℕ) → names leaves (length ns) r ≡ true → 65536 ≤ r → exists (both n) (named ns r .condition) ≡ true
+  pub exists-named : (r : ℕ) → names leaves (length ns) r ≡ true → 65536 ≤ r → exists (both n) (named ns r .condition) ≡ true
   exists-named r h large = and-parts _ _ (lawful (r - 65536) (node-within leaves (length ns) r h large)) .0
 
   branch-named : (b : Bool) (r : ℕ) → names leaves (length ns) r ≡ true → 65536 ≤ r → names leaves (length ns) (branch b (named ns r)) ≡ true
@@ -73,7 +73,7 @@ module _ (n leaves : ℕ) (ns : List Node) (lawful : Lawful (both n) leaves ns) 
   branch-above b r h large big =
       ltb-true (level n (named ns r .condition)) (level n (named ns (branch b (named ns r)) .condition)) (sym (cond-false _ _ _ (le-ltb _ _ big)) ∙ and-parts _ _ (branch-lawful b r h large) .1)
 
-  descend-named : (k : ℕ) (b : Bool) (r : ℕ) → names leaves (length ns) r ≡ true → names leaves (length ns) (descend n ns k b r) ≡ true
+  pub descend-named : (k : ℕ) (b : Bool) (r : ℕ) → names leaves (length ns) r ≡ true → names leaves (length ns) (descend n ns k b r) ≡ true
   descend-named k b r h = by (down n ns k b r)
     where
       by : Down n ns k b r → names leaves (length ns) (descend n ns k b r) ≡ true

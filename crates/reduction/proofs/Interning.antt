@@ -37,7 +37,7 @@ module _ {X : Type 0} (eq : X → X → Bool) (same : Same eq) where
   found-step y x d ys true e rest l = same .means y x e
   found-step y x d ys false e rest l = rest (omega arith)
 
-  found : (xs : List X) (x d : X) → index eq xs x < length xs → getD xs (index eq xs x) d ≡ x
+  pub found : (xs : List X) (x d : X) → index eq xs x < length xs → getD xs (index eq xs x) d ≡ x
   found [] x d h = absurd (omega arith)
   found (y ∷ ys) x d h = found-step y x d ys (eq y x) refl (found ys x d) h
 

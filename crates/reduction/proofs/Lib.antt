@@ -5,3 +5,4 @@ pub mod Walked
 pub mod Once
 pub mod Hashes
 pub mod Pushes
+pub mod Again

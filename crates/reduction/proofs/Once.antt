@@ -10,6 +10,7 @@ use Rattle.reduction.specs.Listed.{Same, index, listed}
 use Rattle.reduction.specs.Walk.{Made, link, walk, reduced}
 use Rattle.reduction.specs.Canonical.{Agree, says, ReadsBack, TablesReadBack, OneTable, TablesAreCanonical}
 use Rattle.reduction.proofs.Walked.{walk-stands}
+use Rattle.reduction.proofs.Again.{nothing, walk-tidy, same-again}
 
 module _ {X : Type 0} (eq : X → X → Bool) where
   walk-agree : (n L k : ℕ) (f g : List Bool → X) (ls : List X) (ns : List Node) → Agree L f g → walk eq n L k f ls ns ≡ walk eq n L k g ls ns
@@ -25,7 +26,16 @@ module _ {X : Type 0} (eq : X → X → Bool) where
     pub read-back : TablesReadBack eq
     read-back n f few =
         let st = walk-stands eq same n (n + n) 0 f [] [] (omega arith) (λ j less. absurd (omega arith)) few in
-        record { lawful = st .lawful; named = st .rooted; reads = st .reads }
+        let tidy = walk-tidy eq same n (n + n) 0 f [] [] (nothing eq same n) in
+        record {
+          lawful = st .lawful;
+          named = st .rooted;
+          reads = st .reads;
+          leaves-once = tidy .leaves-apart;
+          nodes-once = tidy .nodes-apart;
+          parted = tidy .parted;
+          again = same-again eq same n f few;
+        }
 
     pub canonical : TablesAreCanonical eq
     canonical n f g =

@@ -5,7 +5,7 @@ use crate::interned::Interned;
 pub mod interned;
 pub mod unique;
 
-// A reduced table is lawful and reads back its function.
+// A reduced table is lawful, reads back its function, lists each thing once, and its function walked again adds nothing.
 pub fn tables_read_back<L: Interned>()
     ensures { λ _. ⌜ TablesReadBack (L·Interned .equal) ⌝ }
 {}
