@@ -10,11 +10,11 @@ use lib.ListN.{length}
 use lib.Pow.{pow-mono}
 use Rattle.diagram.specs.States.{bit, bits-from}
 
+pub bit-clear : (i s : ℕ) → s < 2 ^ i → bit i s ≡ false
+bit-clear i s h = ap (λ q. eqb (q % 2) 1) (div-eq-of-lt h)
+
 pub bit-past : (i s : ℕ) → s < 2 ^ 64 → 64 ≤ i → bit i s ≡ false
-bit-past i s small past =
-    let big : 2 ^ 64 ≤ 2 ^ i = pow-mono past in
-    let under : s < 2 ^ i = omega arith in
-    ap (λ q. eqb (q % 2) 1) (div-eq-of-lt under)
+bit-past i s small past = let big : 2 ^ 64 ≤ 2 ^ i = pow-mono past in bit-clear i s (omega arith)
 
 pub length-bits : (i n s : ℕ) → length (bits-from i n s) ≡ n
 length-bits i zero s = refl

@@ -1,5 +1,6 @@
 -- The order in which a diagram tests its conditions.
 --     level n c     where the condition c stands in the order, among n conditions before and n after a move
+--     number c      the number of the condition c, whichever of the two it is
 --     exists d c    a table over the domain d may test c
 --     states n      the domain of a table over the states of n conditions, which tests no after-condition
 use mathlib.Core.Bool.{Bool, false, _&&_}
@@ -12,6 +13,10 @@ use Rattle.diagram.specs.declared.conditions.Domain.{Domain}
 abbrev pub level : ℕ → Condition → ℕ
 level n (After a) = a .0
 level n (Before b) = n + b .0
+
+abbrev pub number : Condition → ℕ
+number (After a) = a .0
+number (Before b) = b .0
 
 abbrev pub exists : Domain → Condition → Bool
 exists d (After a) = d .after && ltb (a .0) (d .conditions)

@@ -1,5 +1,4 @@
 // What the lists hold, as text.
-use diagram::conditions::Condition;
 use diagram::nodes::Node;
 use std::alloc::AllocError;
 use std::fmt::Display;
@@ -17,17 +16,10 @@ pub fn show_all<T: Display + Copy>(
     Ok(())
 }
 
-fn number_of(condition: Condition) -> u8 {
-    match condition {
-        Condition::Before(before) => before.0,
-        Condition::After(after) => after.0,
-    }
-}
-
 pub fn show_nodes(text: &mut String, title: &str, list: &[Node]) -> Result<(), AllocError> {
     text.push_str(title)?;
     for node in list {
-        let condition = number_of(node.condition);
+        let condition = node.condition.number();
         let one = node.one;
         let zero = node.zero;
         text.push_str(format!(text.allocator(), " {condition}:{one}:{zero}")?.as_str())?;

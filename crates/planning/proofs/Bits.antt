@@ -9,9 +9,6 @@ use lib.Pow.{pow-pos, pow-add}
 use Rattle.diagram.specs.States.{bit}
 use Rattle.planning.specs.Values.{weight}
 
-pub top-clear : (i t : ℕ) → t < 2 ^ i → bit i t ≡ false
-top-clear i t h = ap (λ q. eqb (q % 2) 1) (div-eq-of-lt h)
-
 pub top-set : (i t : ℕ) → t < 2 ^ i → bit i (t + 2 ^ i) ≡ true
 top-set i t h =
     let q : (t + 2 ^ i) / 2 ^ i ≡ 1 = ap (λ z. (t + z) / 2 ^ i) (sym (one-mul (2 ^ i))) ∙ add-mul-div-right t 1 (pow-pos i) ∙ ap (λ z. z + 1) (div-eq-of-lt h) in

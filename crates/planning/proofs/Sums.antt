@@ -10,7 +10,8 @@ use Rattle.ranges.specs.Ranges.{mixed}
 use Rattle.ranges.specs.Whole.{_·_}
 use Rattle.planning.specs.Models.{Model}
 use Rattle.planning.specs.Values.{weight, sum, expected, nested, SumsAreNested}
-use Rattle.planning.proofs.Bits.{top-clear, top-set, weight-same}
+use Rattle.diagram.proofs.Bits.{bit-clear}
+use Rattle.planning.proofs.Bits.{top-set, weight-same}
 use Rattle.planning.proofs.Scaled.{times-sum, times-times, one-times}
 
 sum-add : (p q : ℕ) (f : ℕ → ℤ) → sum (p + q) f ≡ sum p f +ℤ sum q (λ t. f (t + p))
@@ -40,7 +41,7 @@ top-out c i X =
     let halves : sum (2 ^ suc i) f ≡ sum (2 ^ i) f +ℤ sum (2 ^ i) (λ t. f (t + 2 ^ i)) = ap (λ n. sum n f) (two-pow-succ i) ∙ sum-add (2 ^ i) (2 ^ i) f in
     halves ∙ sum-both (2 ^ i) f (λ t. f (t + 2 ^ i)) ∙ sum-same (2 ^ i) (λ t. f t +ℤ f (t + 2 ^ i)) (λ t. weight c i t · mixed (c i) (X (t + 2 ^ i)) (X t))
     (λ t low.
-    let a : f t ≡ (weight c i t * (10000 - c i)) · X t = ap (λ b. (weight c i t * cond b (c i) (10000 - c i)) · X t) (top-clear i t low) in
+    let a : f t ≡ (weight c i t * (10000 - c i)) · X t = ap (λ b. (weight c i t * cond b (c i) (10000 - c i)) · X t) (bit-clear i t low) in
     let b : f (t + 2 ^ i) ≡ (weight c i t * c i) · X (t + 2 ^ i) =
     ap (λ v. (weight c i (t + 2 ^ i) * cond v (c i) (10000 - c i)) · X (t + 2 ^ i)) (top-set i t low) ∙ ap (λ w. (w * c i) · X (t + 2 ^ i)) (weight-same c i i t (omega arith)) in
     ap (λ z. z +ℤ f (t + 2 ^ i)) a ∙ ap (λ z. ((weight c i t * (10000 - c i)) · X t) +ℤ z) b ∙ pair (weight c i t) (c i) (X (t + 2 ^ i)) (X t))

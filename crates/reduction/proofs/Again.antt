@@ -18,7 +18,7 @@ use Rattle.diagram.specs.Reads.{branch, tests, descend, reach}
 use Rattle.reduction.specs.Listed.{Same, index, listed}
 use Rattle.reduction.specs.Walk.{condition-at, same-node, Made, node-for, link, walk, reduced}
 use Rattle.reduction.specs.Canonical.{both, Distinct, Parted}
-use Rattle.reduction.proofs.Interning.{index-le, found, listed-cases}
+use Rattle.reduction.proofs.Interning.{missed, index-unique, listed-cases}
 use Rattle.reduction.proofs.Levels.{node-sameness}
 use Rattle.reduction.proofs.Growth.{Above, node-within, descend-named, descend-above, exists-named, reach-ends}
 use Rattle.reduction.proofs.Walked.{Stands, walk-stands}
@@ -29,25 +29,6 @@ condition-back n (Before b) h =
 condition-back n (After a) h = cond-true _ _ _ h
 
 module _ {X : Type 0} (eq : X → X → Bool) (same : Same eq) where
-  missed-step : (y x d : X) (ys : List X) (i : ℕ) (b : Bool) → eq y x ≡ b → ((j : ℕ) → j < index eq ys x → eq (getD ys j d) x ≡ false) → i < cond b 0 (suc (index eq ys x)) → eq (getD (y ∷ ys) i d) x ≡ false
-  missed-step y x d ys i true hit rest l = absurd (omega arith)
-  missed-step y x d ys zero false miss rest l = miss
-  missed-step y x d ys (suc i) false miss rest l = rest i (omega arith)
-
-  missed : (xs : List X) (x d : X) (i : ℕ) → i < index eq xs x → eq (getD xs i d) x ≡ false
-  missed [] x d i l = absurd (omega arith)
-  missed (y ∷ ys) x d i l = missed-step y x d ys i (eq y x) refl (missed ys x d) l
-
-  pub index-unique : (xs : List X) (x d : X) (i : ℕ) → Distinct eq xs → i < length xs → getD xs i d ≡ x → index eq xs x ≡ i
-  index-unique xs x d i apart l e =
-      let k = index eq xs x in
-      ⊎-elim
-      (λ under.
-      let at = found eq same xs x d (omega arith) in
-      absurd (false≢true (sym (apart k i d under l) ∙ ap (λ z. eq z (getD xs i d)) at ∙ ap (eq x) e ∙ same .self x)))
-      (λ rest. ⊎-elim (λ beyond. absurd (false≢true (sym (missed xs x d i beyond) ∙ ap (λ z. eq z x) e ∙ same .self x))) (λ le. omega arith) (cases-lt i k))
-      (cases-lt k i)
-
   pub listed-old : (xs : List X) (x : X) → index eq xs x < length xs → listed eq xs x ≡ xs
   listed-old xs x l = cond-true _ _ _ (lt-ltb (index eq xs x) (length xs) l)
 
@@ -58,7 +39,7 @@ module _ {X : Type 0} (eq : X → X → Bool) (same : Same eq) where
       ⊎-elim (λ old. ap (λ z. eq z (getD (xs ++ x ∷ []) j d)) (getD-append-left xs (x ∷ []) d i (omega arith)) ∙ ap (eq (getD xs i d)) (getD-append-left xs (x ∷ []) d j old) ∙ apart i j d l old)
       (λ end.
       let last : length xs ≡ j = omega (arith, length-push xs x) in
-      ap (λ z. eq z (getD (xs ++ x ∷ []) j d)) (getD-append-left xs (x ∷ []) d i (omega arith)) ∙ ap (eq (getD xs i d)) (getD-push xs x d j last) ∙ missed xs x d i (omega arith))
+      ap (λ z. eq z (getD (xs ++ x ∷ []) j d)) (getD-append-left xs (x ∷ []) d i (omega arith)) ∙ ap (eq (getD xs i d)) (getD-push xs x d j last) ∙ missed eq same xs x d i (omega arith))
       (cases-lt j (length xs)))
 
 module _ {X : Type 0} (eq : X → X → Bool) (same : Same eq) (n : ℕ) where

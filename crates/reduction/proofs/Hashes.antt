@@ -7,8 +7,10 @@ use Prim.Native.Nat.{ℕ, zero, suc, _+_, _-_, _%_, _≤_, _<_}
 use native.Mathlib.Omega.{arith}
 use lib.Dec.{eqb}
 use lib.ListN.{length, getD, take}
-use Rattle.std.proofs.shelf.Lists.{getD-take, length-take-le}
+use Rattle.std.proofs.shelf.Lists.{getD-take, getD-default, length-take-le}
 use Rattle.std.proofs.shelf.Tests.{cond-both, cond-true, cond-false, cases-lt, cases-bool, eqb-true, eqb-false, false≢true}
+use Rattle.reduction.proofs.Interning.{index-unique}
+use Rattle.reduction.specs.Canonical.{Distinct}
 use Rattle.reduction.specs.Listed.{Same, index}
 use Rattle.reduction.specs.Hashing.{bucket-of, last, cleaned, Indexed}
 
@@ -71,22 +73,16 @@ module _ {X : Type 0} (eq : X → X → Bool) (digest : X → ℕ) (blank : X) w
     index-none [] h = refl
     index-none (y ∷ ys) h = cond-false _ _ _ (h 0 (omega arith)) ∙ ap suc (index-none ys (λ i l. h (suc i) (omega arith)))
 
-    index-at : (ys : List X) (i : ℕ) → i < length ys → eq (getD ys i blank) x ≡ true → ((j : ℕ) → j < i → eq (getD ys j blank) x ≡ false) → index eq ys x ≡ i
-    index-at [] i l hit h = absurd (omega arith)
-    index-at (y ∷ ys) zero l hit h = cond-true _ _ _ hit
-    index-at (y ∷ ys) (suc i) l hit h = cond-false _ _ _ (h 0 (omega arith)) ∙ ap suc (index-at ys i (omega arith) hit (λ j less. h (suc j) (omega arith)))
-
     all : length (take count xs) ≡ count
     all = length-take-le count xs (ix .counted)
 
     pub absent : Sought xs count (length heads) x 0 → index eq (take count xs) x ≡ count
     absent s = index-none (take count xs) (λ i l. ap (λ z. eq z x) (getD-take count xs i blank (omega (arith, all))) ∙ s .passed i (omega arith) (omega (arith, all))) ∙ all
 
+    counted-apart : Distinct eq (take count xs)
+    counted-apart i j d l m =
+        let at : (k : ℕ) → k < count → getD (take count xs) k d ≡ getD xs k blank = λ k h. getD-take count xs k d h ∙ getD-default xs k d blank (omega (arith, ix .counted)) in
+        ap (λ z. eq z (getD (take count xs) j d)) (at i (omega (arith, all))) ∙ ap (eq (getD xs i blank)) (at j (omega (arith, all))) ∙ ix .apart i j l (omega (arith, all))
+
     pub present : (i : ℕ) → i < count → eq (getD xs i blank) x ≡ true → index eq (take count xs) x ≡ i
-    present i l hit =
-        index-at (take count xs) i (omega (arith, all)) (ap (λ z. eq z x) (getD-take count xs i blank l) ∙ hit)
-        (λ j less.
-        ap (λ z. eq z x) (getD-take count xs j blank (omega arith))
-        ∙ ⊎-elim
-        (λ twice. let both : getD xs i blank ≡ x = same .means _ _ hit in absurd (false≢true (sym (ix .apart j i less l) ∙ ap (eq (getD xs j blank)) both ∙ twice)))
-        (λ miss. miss) (cases-bool (eq (getD xs j blank) x)))
+    present i l hit = index-unique eq same (take count xs) x blank i counted-apart (omega (arith, all)) (getD-take count xs i blank l ∙ same .means (getD xs i blank) x hit)

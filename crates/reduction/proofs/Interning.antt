@@ -8,7 +8,8 @@ use native.Mathlib.Omega.{arith}
 use lib.Dec.{ltb}
 use lib.ListN.{length, getD, length-append}
 use Rattle.std.proofs.shelf.Lists.{getD-append-left, getD-push, length-push}
-use Rattle.std.proofs.shelf.Tests.{cond-both, cond-true, cond-false, cases-lt, lt-ltb, le-ltb}
+use Rattle.std.proofs.shelf.Tests.{cond-both, cond-true, cond-false, cases-lt, lt-ltb, le-ltb, false≢true}
+use Rattle.reduction.specs.Canonical.{Distinct}
 use Rattle.reduction.specs.Listed.{Same, index, listed}
 
 -- ys is xs and then more
@@ -37,7 +38,7 @@ module _ {X : Type 0} (eq : X → X → Bool) (same : Same eq) where
   found-step y x d ys true e rest l = same .means y x e
   found-step y x d ys false e rest l = rest (omega arith)
 
-  pub found : (xs : List X) (x d : X) → index eq xs x < length xs → getD xs (index eq xs x) d ≡ x
+  found : (xs : List X) (x d : X) → index eq xs x < length xs → getD xs (index eq xs x) d ≡ x
   found [] x d h = absurd (omega arith)
   found (y ∷ ys) x d h = found-step y x d ys (eq y x) refl (found ys x d) h
 
@@ -53,3 +54,24 @@ module _ {X : Type 0} (eq : X → X → Bool) (same : Same eq) where
 
   pub listed-within : (xs : List X) (x : X) → index eq xs x < length (listed eq xs x)
   listed-within xs x = listed-cases xs x (λ l. index eq xs x < length l) (λ l. l) (λ e. omega (arith, length-push xs x))
+
+  missed-step : (y x d : X) (ys : List X) (i : ℕ) (b : Bool) → eq y x ≡ b → ((j : ℕ) → j < index eq ys x → eq (getD ys j d) x ≡ false) → i < cond b 0 (suc (index eq ys x)) → eq (getD (y ∷ ys) i d) x ≡ false
+  missed-step y x d ys i true hit rest l = absurd (omega arith)
+  missed-step y x d ys zero false miss rest l = miss
+  missed-step y x d ys (suc i) false miss rest l = rest i (omega arith)
+
+  -- before its index a thing does not stand
+  pub missed : (xs : List X) (x d : X) (i : ℕ) → i < index eq xs x → eq (getD xs i d) x ≡ false
+  missed [] x d i l = absurd (omega arith)
+  missed (y ∷ ys) x d i l = missed-step y x d ys i (eq y x) refl (missed ys x d) l
+
+  -- in a list of distinct things a thing's place is its index
+  pub index-unique : (xs : List X) (x d : X) (i : ℕ) → Distinct eq xs → i < length xs → getD xs i d ≡ x → index eq xs x ≡ i
+  index-unique xs x d i apart l e =
+      let k = index eq xs x in
+      ⊎-elim
+      (λ under.
+      let at = found xs x d (omega arith) in
+      absurd (false≢true (sym (apart k i d under l) ∙ ap (λ z. eq z (getD xs i d)) at ∙ ap (eq x) e ∙ same .self x)))
+      (λ rest. ⊎-elim (λ beyond. absurd (false≢true (sym (missed xs x d i beyond) ∙ ap (λ z. eq z x) e ∙ same .self x))) (λ le. omega arith) (cases-lt i k))
+      (cases-lt k i)

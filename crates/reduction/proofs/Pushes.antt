@@ -10,23 +10,13 @@ use lib.ListN.{length, getD, take, set, length-set}
 use Rattle.std.proofs.shelf.Lists.{getD-take, length-take-le, getD-set-same, getD-set-other}
 use Rattle.std.proofs.shelf.Tests.{cond-both, cond-true, cond-false, cases-lt, cases-bool, cases-eq, eq-eqb, ne-eqb, lt-ltb, le-ltb, le-leb, lt-leb, and-from, and-left, and-right, true≢false}
 use Rattle.reduction.specs.Listed.{Same, index, listed}
+use Rattle.reduction.proofs.Interning.{missed}
 use Rattle.reduction.specs.Hashing.{bucket-of, last, current, cleaned, Indexed}
 
 last-same : (of of′ : ℕ → ℕ) (b c : ℕ) → ((i : ℕ) → i < c → of i ≡ of′ i) → last of b c ≡ last of′ b c
 last-same of of′ b zero h = refl
 last-same of of′ b (suc c) h =
     ap (λ z. cond (eqb z b) (suc c) (last of b c)) (h c (omega arith)) ∙ ap (λ z. cond (eqb (of′ c) b) (suc c) z) (last-same of of′ b c (λ i l. h i (omega arith)))
-
--- a thing whose index is the length stands nowhere
-nowhere-step : {X : Type 0} (eq : X → X → Bool) (y x d : X) (ys : List X) (i : ℕ) (b : Bool) → eq y x ≡ b → cond b 0 (suc (index eq ys x)) ≡ suc (length ys) →
-    ((j : ℕ) → index eq ys x ≡ length ys → j < length ys → eq (getD ys j d) x ≡ false) → i < suc (length ys) → eq (getD (y ∷ ys) i d) x ≡ false
-nowhere-step eq y x d ys i true hit e rest l = absurd (omega arith)
-nowhere-step eq y x d ys zero false miss e rest l = miss
-nowhere-step eq y x d ys (suc i) false miss e rest l = rest i (omega arith) (omega arith)
-
-nowhere : {X : Type 0} (eq : X → X → Bool) (ys : List X) (x d : X) (i : ℕ) → index eq ys x ≡ length ys → i < length ys → eq (getD ys i d) x ≡ false
-nowhere eq [] x d i e l = absurd (omega arith)
-nowhere eq (y ∷ ys) x d i e l = nowhere-step eq y x d ys i (eq y x) refl e (λ j f m. nowhere eq ys x d j f m) l
 
 none : (b : Bool) → cond {A = ℕ} b 0 0 ≡ 0
 none b = cond-both b 0 0 (λ z. z ≡ 0) (λ _. refl) (λ _. refl)
@@ -53,7 +43,7 @@ still of of′ c count h same off =
     (λ zero-head. let e : h ≡ 0 = omega arith in rw e (none (current of′ c (suc count) 0) ∙ sym (none (current of c count 0)))) (cases-lt 0 h))
     (cases-lt count h)
 
-module _ {X : Type 0} (eq : X → X → Bool) (digest : X → ℕ) (blank : X) (xs : List X) (count : ℕ) (heads next : List ℕ) (ix : Indexed eq digest blank xs count heads next) (x : X) (room : count < length xs)
+module _ {X : Type 0} (eq : X → X → Bool) (same : Same eq) (digest : X → ℕ) (blank : X) (xs : List X) (count : ℕ) (heads next : List ℕ) (ix : Indexed eq digest blank xs count heads next) (x : X) (room : count < length xs)
     (new : index eq (take count xs) x ≡ count) (h : ℕ)
     (is : h ≡ cleaned (bucket-of digest (length heads) xs blank) (digest x % length heads) count (getD heads (digest x % length heads) 0)) (inside : digest x % length heads < length heads) where
   abbrev b : ℕ
@@ -115,7 +105,7 @@ module _ {X : Type 0} (eq : X → X → Bool) (digest : X → ℕ) (blank : X) (
       let long : length (take count xs) ≡ count = length-take-le count xs (ix .counted) in
       rw e
       (ap (λ z. eq z (getD (set xs count x) count blank)) (other i (omega arith)) ∙ ap (eq (getD xs i blank)) (getD-set-same xs count x blank room)
-      ∙ ap (λ z. eq z x) (sym (getD-take count xs i blank (omega arith))) ∙ nowhere eq (take count xs) x blank i (new ∙ sym long) (omega arith)))
+      ∙ ap (λ z. eq z x) (sym (getD-take count xs i blank (omega arith))) ∙ missed eq same (take count xs) x blank i (omega arith)))
       (cases-lt j count)
 
   pub pushed : Indexed eq digest blank (set xs count x) (suc count) heads′ (set next count h)

@@ -12,6 +12,7 @@ use lib.Dec.{ltb, eqb}
 use Rattle.diagram.specs.declared.conditions.Condition.{Condition}
 use Rattle.diagram.specs.declared.conditions.Condition.the-variants.{Before, After}
 use Rattle.diagram.specs.declared.nodes.Node.{Node}
+use Rattle.diagram.specs.Order.{number}
 use Rattle.reduction.specs.Listed.{index, listed}
 
 abbrev pub condition-at : ℕ → ℕ → Condition
@@ -27,12 +28,8 @@ abbrev pub same-node : Node → Node → Bool
 same-node x y = same-condition (x .condition) (y .condition) && (eqb (x .one) (y .one) && eqb (x .zero) (y .zero))
 
 -- where a table of nodes looks for a node first
-abbrev pub condition-number : Condition → ℕ
-condition-number (Before b) = b .0
-condition-number (After a) = a .0
-
 abbrev pub node-digest : Node → ℕ
-node-digest x = x .one * 2654435761 + x .zero * 40503 + condition-number (x .condition)
+node-digest x = x .one * 2654435761 + x .zero * 40503 + number (x .condition)
 
 pub record Made (X : Type 0) : Type 0 where
   pub root : ℕ

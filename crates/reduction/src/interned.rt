@@ -5,7 +5,7 @@ ghost use Prim.Native.Nat.{ℕ};
 ghost use lib.Dec.{eqb};
 ghost use lib.IntN.{pos, natAbs};
 ghost use Rattle.diagram.specs.Lawful.{blank as no-node};
-ghost use Rattle.reduction.specs.Walk.{same-condition, same-node, condition-number, node-digest};
+ghost use Rattle.reduction.specs.Walk.{same-condition, same-node, node-digest};
 ghost use Rattle.reduction.specs.Listed.{same-whole};
 use diagram::conditions::Condition;
 use diagram::nodes::Node;
@@ -78,16 +78,7 @@ pub impl Interned for Node as InternedNode {
     }
 
     fn digest(self) -> u64 {
-        self.one as u64 * 2654435761 + self.zero as u64 * 40503 + number_of(self.condition) as u64
-    }
-}
-
-fn number_of(condition: Condition) -> u8
-    ensures { λ r. ⌜ r ≡ condition-number condition ⌝ }
-{
-    match condition {
-        Condition::Before(before) => before.0,
-        Condition::After(after) => after.0,
+        self.one as u64 * 2654435761 + self.zero as u64 * 40503 + self.condition.number() as u64
     }
 }
 
