@@ -1,9 +1,9 @@
 -- A visit that goes no deeper: at three leaves, and at a triple that the memo knows.
-use Rattle.std.proofs.Common.{◌≡◌, ℕ, ◌+◌, ◌-◌, ◌≤◌, Bool, List, [], length, take, Some, None, Option, sym, refl, ap, ◌∙◌, subst, arith}
+use Rattle.std.proofs.Common.{◌≡◌, ℕ, ◌+◌, ◌≤◌, Bool, List, [], length, take, Some, None, Option, sym, ap, ◌∙◌, subst, arith}
 use Rattle.diagram.specs.declared.nodes.Node.{Node}
 use Rattle.listing.specs.declared.listed.Listed.{Listed}
 use Rattle.listing.specs.Hashing.{counted, Right, Interning}
-use Rattle.reduction.specs.Listed.{Same, index, listed}
+use Rattle.reduction.specs.Listed.{Same, listed}
 use Rattle.reduction.specs.Walk.{walk}
 use Rattle.reduction.proofs.Interning.{listed_grown, grown_none}
 use Rattle.sources.specs.declared.memo.Memo.{Memo}

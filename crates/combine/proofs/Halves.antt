@@ -1,5 +1,5 @@
 -- A visit that goes deeper: what its two halves and their link leave.
-use Rattle.std.proofs.Common.{◌≡◌, ℕ, suc, ◌+◌, ◌-◌, ◌<◌, ◌≤◌, Bool, true, false, List, length, take, set, sym, refl, ap, ◌∙◌, subst, arith}
+use Rattle.std.proofs.Common.{◌≡◌, ℕ, suc, ◌<◌, ◌≤◌, Bool, true, false, List, length, take, set, sym, ap, ◌∙◌, subst, arith}
 use Rattle.diagram.specs.declared.nodes.Node.{Node}
 use Rattle.diagram.specs.Lawful.{blank as no_node}
 use Rattle.listing.specs.declared.listed.Listed.{Listed}
@@ -10,7 +10,6 @@ use Rattle.reduction.specs.Walk.{same_node, node_digest, link}
 use Rattle.reduction.proofs.Interning.{Grown, grown_none}
 use Rattle.listing.proofs.Linked.{links_over, unlinked_over}
 use Rattle.reduction.proofs.Walked.{link_adds}
-use Rattle.sources.specs.declared.memo.Entry.{Entry}
 use Rattle.sources.specs.declared.memo.Memo.{Memo}
 use Rattle.sources.specs.declared.spot.Spot.{Spot}
 use Rattle.sources.specs.declared.three.Sources.{Sources}

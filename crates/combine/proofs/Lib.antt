@@ -5,3 +5,4 @@ pub mod Nodes
 pub mod Lasting
 pub mod Ends
 pub mod Halves
+pub mod Starting

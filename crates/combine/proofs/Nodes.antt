@@ -1,5 +1,5 @@
 -- A visit of a triple that tests a level: its two halves, their link, and the table that they come to.
-use Rattle.std.proofs.Common.{◌≡◌, ℕ, zero, suc, ◌+◌, ◌-◌, ◌<◌, ◌≤◌, Bool, true, false, List, [], length, sym, refl, ap, ◌∙◌, subst, inl, inr, arith}
+use Rattle.std.proofs.Common.{◌≡◌, ℕ, suc, ◌+◌, ◌-◌, ◌<◌, ◌≤◌, Bool, true, false, List, [], length, sym, ap, ◌∙◌, subst, inl, inr, arith}
 use Rattle.diagram.specs.declared.nodes.Node.{Node}
 use Rattle.reduction.specs.Listed.{Same, index, listed}
 use Rattle.reduction.specs.Walk.{Made, link, walk}
@@ -7,7 +7,7 @@ use Rattle.reduction.proofs.Walked.{link_adds, walk_adds}
 use Rattle.reduction.proofs.Interning.{grown_none}
 use Rattle.sources.specs.declared.spot.Spot.{Spot}
 use Rattle.sources.specs.declared.three.Sources.{Sources}
-use Rattle.sources.specs.Spots.{levels, top, down, AllNamed, AllReadable, values}
+use Rattle.sources.specs.Spots.{top, down, AllNamed, AllReadable, values}
 use Rattle.sources.proofs.Descents.{top_le}
 use Rattle.combine.specs.Tables.{made, walk_from, Over, Sound}
 use Rattle.combine.specs.Remembered.{Known}

@@ -1,18 +1,17 @@
 -- A level that none of the three references tests can be skipped: the walk from it and the walk from the next come to the same.
-use Rattle.std.proofs.Common.{◌≡◌, ℕ, zero, suc, ◌+◌, ◌-◌, ◌<◌, ◌≤◌, Bool, true, false, List, ◌∷◌, length, sym, refl, ap, ◌∙◌, subst, arith}
+use Rattle.std.proofs.Common.{◌≡◌, ℕ, zero, suc, ◌+◌, ◌<◌, ◌≤◌, Bool, true, false, List, ◌∷◌, length, sym, refl, ap, ◌∙◌, subst, arith}
 use Rattle.std.proofs.lemmas.Bool.{cond-true, eq-eqb}
 use Rattle.diagram.specs.declared.nodes.Node.{Node}
 use Rattle.reduction.specs.Canonical.{Agree}
 use Rattle.reduction.specs.Listed.{Same}
 use Rattle.reduction.specs.Walk.{Made, link, walk}
-use Rattle.reduction.proofs.Interning.{grown_none}
 use Rattle.reduction.proofs.Once.{walk_agree}
-use Rattle.reduction.proofs.Walked.{Adds, link_adds, walk_adds}
+use Rattle.reduction.proofs.Walked.{link_adds, walk_adds}
 use Rattle.sources.specs.declared.spot.Spot.{Spot}
 use Rattle.sources.specs.declared.three.Sources.{Sources}
-use Rattle.sources.specs.Spots.{levels, top, down, values}
+use Rattle.sources.specs.Spots.{top, down, values}
 use Rattle.sources.proofs.Descents.{values_step, down_quiet}
-use Rattle.combine.specs.Tables.{walk_from, Over, Sound}
+use Rattle.combine.specs.Tables.{Over, Sound}
 use Rattle.combine.proofs.Walks.{over_more, walk_again}
 
 module _ {A B C X : Type 0} (eq : X → X → Bool) (same : Same eq) (S : Sources A B C) (give : A → B → C → X) (a : A) (b : B) (c : C) where

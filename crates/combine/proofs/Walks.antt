@@ -1,5 +1,5 @@
 -- Walks over sound lists: the lists stay sound, a function walked again adds nothing, and what is known stays known as the lists grow.
-use Rattle.std.proofs.Common.{◌≡◌, ℕ, ◌+◌, ◌≤◌, Bool, List, [], length, sym, refl, ap, ◌∙◌, subst, inl, inr, ⊎_elim, arith}
+use Rattle.std.proofs.Common.{◌≡◌, ℕ, ◌+◌, ◌≤◌, Bool, List, [], length, sym, subst, inl, inr, ⊎_elim, arith}
 use Rattle.diagram.specs.declared.nodes.Node.{Node}
 use Rattle.reduction.specs.Listed.{Same}
 use Rattle.reduction.specs.Walk.{Made, walk}

@@ -3,7 +3,7 @@
 --     walk_from eq n k f ls ns    the walk of f over the levels from k to the last, its leaves and nodes listed after ls and ns
 --     Over a b m             m has more than a leaves or more than b nodes
 --     Sound eq n ls ns       the leaves and nodes listed so far are lawful, each stands once, and no node has two equal references
-use Rattle.std.specs.Prelude.{◌≡◌, ℕ, ◌+◌, ◌-◌, ◌<◌, Bool, ◌⊎◌, List, length}
+use Rattle.std.specs.Prelude.{ℕ, ◌+◌, ◌-◌, ◌<◌, Bool, ◌⊎◌, List, length}
 use Rattle.diagram.specs.declared.nodes.Node.{Node}
 use Rattle.diagram.specs.Lawful.{Lawful}
 use Rattle.reduction.specs.Canonical.{both, Distinct, Parted}

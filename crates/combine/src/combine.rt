@@ -1,7 +1,9 @@
 // The walk of three diagrams at once: each triple of references is visited once as long as the memo holds it, and its table is listed as the one reduced table.
 ghost use Rattle.std.specs.Prelude.{◌≡◌, ◌≤◌, true, false, []};
 ghost use Rattle.listing.specs.Hashing.{Shaped, Right, Stays, Interning};
-ghost use Rattle.sources.specs.Memos.{Ready};
+ghost use Rattle.sources.specs.Memos.{Ready, Unused};
+ghost use Rattle.diagram.specs.Lawful.{blank};
+ghost use Rattle.reduction.specs.Walk.{same_node, node_digest};
 ghost use Rattle.sources.specs.Spots.{levels, top, down, AllNamed, AllReadable, Allowed, values};
 ghost use Rattle.combine.specs.Working.{Working, Lasts, Visited, Combined};
 
@@ -105,6 +107,26 @@ fn visit<C: Combining>(
     Some(root)
 }
 
+// Empties the lists, and gives the memo a stamp under which nothing is remembered.
+fn begin<L: Interned>(leaves: &mut Listed<L>, nodes: &mut Listed<Node>, memo: &mut Memo)
+    requires leaves_shaped { Shaped leaves.old }
+    requires nodes_shaped { Shaped nodes.old }
+    requires ready { Ready memo.old }
+    ensures no_leaf { leaves.new.count ≡ 0 }
+    ensures no_node { nodes.new.count ≡ 0 }
+    ensures leaves_right { Right L.Interned.equal L.Interned.digested L.Interned.blank leaves.new }
+    ensures nodes_right { Right same_node node_digest blank nodes.new }
+    ensures leaves_stay { Stays leaves.old leaves.new }
+    ensures nodes_stay { Stays nodes.old nodes.new }
+    ensures ready { Ready memo.new }
+    ensures unused { Unused memo.new.entries.now memo.new.stamp }
+    ensures lent { memo.new.entries.ghost_name ≡ memo.old.entries.ghost_name }
+{
+    renew(memo);
+    clear(leaves);
+    clear(nodes);
+}
+
 // The table has more leaves or more nodes than may be counted.
 #[derive(Drop)]
 pub struct TooLarge;
@@ -130,8 +152,6 @@ pub fn combine<C: Combining>(
     ensures ready { Ready memo.new }
     ensures lent { memo.new.entries.ghost_name ≡ memo.old.entries.ghost_name }
 {
-    renew(memo);
-    clear(leaves);
-    clear(nodes);
+    begin(leaves, nodes, memo);
     visit(combining, sources, leaves, nodes, memo, 0, roots).ok_or(TooLarge)
 }

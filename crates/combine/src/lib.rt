@@ -1,3 +1,5 @@
 // Diagrams combined into one, state by state.
+#![tactic(auto)]
+
 pub mod combine;
 pub mod combining;

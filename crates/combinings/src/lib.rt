@@ -1,4 +1,6 @@
 // What a pass does to leaves: rewards made ranges, the average by a chance, the best of the moves, the discount, the reward added.
+#![tactic(auto)]
+
 pub mod as_range;
 pub mod average;
 pub mod discounted;

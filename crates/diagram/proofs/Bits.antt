@@ -1,5 +1,5 @@
 -- The bits of a state: past the number's width, and a run of them cut in two.
-use Rattle.std.proofs.Common.{◌≡◌, ℕ, zero, suc, ◌+◌, ◌/◌, ◌%◌, ◌^◌, ◌<◌, ◌≤◌, false, eqb, ◌∷◌, ◌++◌, length, sym, refl, ap, ◌∙◌, add-zero, add-suc, suc-add, zero-add, arith, pow_mono}
+use Rattle.std.proofs.Common.{◌≡◌, ℕ, zero, suc, ◌+◌, ◌%◌, ◌^◌, ◌<◌, ◌≤◌, false, eqb, ◌∷◌, ◌++◌, length, refl, ap, ◌∙◌, add-zero, add-suc, suc-add, zero-add, arith, pow_mono}
 use native.Mathlib.Nat.{div-eq_of_lt}
 use Rattle.diagram.specs.States.{bit, bits_from}
 

@@ -1,8 +1,8 @@
 -- A state is the number of its bits, and any bits are those of their number.
-use Rattle.std.proofs.Common.{◌≡◌, ℕ, zero, suc, ◌+◌, ◌*◌, ◌/◌, ◌%◌, ◌^◌, ◌<◌, Bool, true, false, cond, eqb, List, [], ◌∷◌, length, sym, refl, ap, ◌∙◌, subst, ⊎_elim, div-lt_iff_lt-mul, arith}
+use Rattle.std.proofs.Common.{◌≡◌, ℕ, zero, suc, ◌+◌, ◌*◌, ◌/◌, ◌%◌, ◌^◌, ◌<◌, Bool, true, false, cond, eqb, List, [], ◌∷◌, length, sym, refl, ap, ◌∙◌, subst, ⊎_elim, arith}
 use native.Mathlib.Nat.{pow-succ', div-div-eq-div-mul}
 use Rattle.std.proofs.lemmas.Bool.{cond-true, cond-false, cases_Bool, eq-eqb, eqb-true, eqb-false, ne_eqb}
-use Rattle.diagram.specs.States.{bit, bits_from, number_of, StateBits, StatesAreBits}
+use Rattle.diagram.specs.States.{bit, bits_from, number_of, StatesAreBits}
 
 bit_shift : (i s : ℕ) → bit (suc i) s ≡ bit i (s / 2)
 bit_shift i s = ap (λ q. eqb (q % 2) 1) (ap (λ d. s / d) (pow-succ' 2 i) ∙ sym (div-div-eq-div-mul s 2 (2 ^ i)))

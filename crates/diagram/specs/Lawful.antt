@@ -5,7 +5,7 @@
 --     branch_is_lawful d leaves nodes j r    r may be a branch of node j: a leaf, or a node before j that tests a later condition
 --     node_is_lawful d leaves nodes j        node j tests a condition of the domain and both its branches are lawful
 --     Lawful d leaves nodes                  every node is
-use Rattle.std.specs.Prelude.{◌≡◌, ℕ, ◌-◌, ◌<◌, Bool, true, cond, ◌&&◌, List, length, nat_lt, slice_index_or}
+use Rattle.std.specs.Prelude.{ℕ, ◌-◌, Bool, true, cond, ◌&&◌, List, length, nat_lt, slice_index_or}
 use Rattle.diagram.specs.declared.conditions.Condition.{Condition}
 use Rattle.diagram.specs.declared.conditions.Condition.TheVariants.{Before}
 use Rattle.diagram.specs.declared.conditions.Domain.{Domain}

@@ -1,4 +1,6 @@
 // Ordered decision diagrams in lists of nodes: conditions, references, lawfulness, and the look-up of one state.
+#![tactic(auto)]
+
 pub mod conditions;
 pub mod lawful;
 pub mod look;

@@ -7,7 +7,7 @@ use Rattle.faults.specs.declared.FileFault.TheVariants.{CutShort, UnknownTag, Ou
 use Rattle.faults.specs.declared.ModelFault.TheVariants.{OutsideLimits, UnlawfulNode, RootNamesNothing}
 use Rattle.faults.specs.declared.CallFault.TheVariants.{OutOfRange}
 use Rattle.faults.specs.declared.Figures.{Figures}
-use Rattle.std.specs.Prelude.{ℕ, List, ◌∷◌, ◌++◌, codes, decimal}
+use Rattle.std.specs.Prelude.{ℕ, List, ◌++◌, codes, decimal}
 
 abbrev of : ℕ → ℕ → ℕ → ℕ → Figures
 of l n t p = record { layer = l; number = n; tag = t; place = p }

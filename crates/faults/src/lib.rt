@@ -1,4 +1,6 @@
 // What is wrong with a file, a model or a call, and the four figures by which it is reported.
+#![tactic(auto)]
+
 ghost use Rattle.std.specs.Prelude.{◌≡◌, Some};
 ghost use Rattle.faults.specs.Figures.{reported, line};
 ghost use Rattle.faults.specs.declared.Fault.TheVariants.{File, Model, Call};

@@ -1,5 +1,5 @@
 -- The tests of a model, kind after kind: where one kind fails after all before it passed, and what passing all tells.
-use Rattle.std.proofs.Common.{◌≡◌, ℕ, true, List, ◌++◌, length, pos, Some, None, Ok, Err, Option, Result, ◌∙◌}
+use Rattle.std.proofs.Common.{◌≡◌, ℕ, List, ◌++◌, length, pos, Some, None, Ok, Err, Option, Result, ◌∙◌}
 use Rattle.faults.specs.declared.ModelFault.{ModelFault}
 use Rattle.faults.specs.Tests.{Test, first_fault, Verdict}
 use Rattle.faults.proofs.Order.{then_none, then_some}

@@ -1,8 +1,7 @@
 -- What the tests of the model say of the tests of the draft.
-use Rattle.std.proofs.Common.{◌≡◌, ℕ, ◌-◌, Bool, true, false, cond, List, [], ◌∷◌, map, take, Some, None, Option, sym, refl, ap, ◌∙◌, subst}
+use Rattle.std.proofs.Common.{◌≡◌, ℕ, ◌-◌, Bool, true, false, cond, List, [], ◌∷◌, map, take, Some, Option, sym, refl, ap, ◌∙◌}
 use native.Mathlib.Nat.{sub-zero}
 use Rattle.std.specs.Option.{option_map}
-use Rattle.faults.specs.declared.Fault.{Fault}
 use Rattle.faults.specs.declared.Fault.TheVariants.{File, Model as OfModel}
 use Rattle.faults.specs.declared.FileFault.TheVariants.{ListTooShort}
 use Rattle.faults.specs.declared.ModelFault.{ModelFault}

@@ -2,7 +2,7 @@
 --     reward_at n l s          the reward of the state s, from the lists l of a model of n conditions
 --     chance_at n l a i s      how many times in 10,000 the move a from the state s leaves condition i at 1
 --     Told b x r               r is x where b holds, and else the refusal of a number that is out of range
-use Rattle.std.specs.Prelude.{◌≡◌, ℕ, ◌+◌, ◌*◌, ◌^◌, Bool, true, false, ◌&&◌, ℤ, pos, Ok, Err, Result, nat_lt, slice_index, slice_index_or}
+use Rattle.std.specs.Prelude.{◌≡◌, ℕ, ◌+◌, ◌*◌, ◌^◌, Bool, true, false, ℤ, pos, Ok, Err, Result, nat_lt, slice_index, slice_index_or}
 use Rattle.diagram.specs.Reads.{leaf_of}
 use Rattle.faults.specs.declared.Fault.{Fault}
 use Rattle.faults.specs.declared.Fault.TheVariants.{Call}

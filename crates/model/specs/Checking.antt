@@ -2,7 +2,7 @@
 --     reward_within z               a reward may be z
 --     chance_within c               a chance, in ten-thousandths, may be c
 --     model_tests n m b l           the tests of a model of n conditions, m moves and discount b ÷ 10,000 with the lists l
-use Rattle.std.specs.Prelude.{ℕ, ◌+◌, ◌*◌, Bool, cond, ◌&&◌, List, [], ◌∷◌, ◌++◌, length, ℤ, pos, negsuc, ◌==◌, int_le, nat_le, slice_index, slice_index_or}
+use Rattle.std.specs.Prelude.{ℕ, Bool, cond, ◌&&◌, List, [], ◌∷◌, ◌++◌, length, ℤ, pos, negsuc, ◌==◌, int_le, nat_le, slice_index, slice_index_or}
 use Rattle.diagram.specs.declared.nodes.Node.{Node}
 use Rattle.diagram.specs.Lawful.{names, node_is_lawful}
 use Rattle.diagram.specs.Order.{states}

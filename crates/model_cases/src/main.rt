@@ -1,5 +1,7 @@
 // Loads each file of a table from standard input, and prints what loading answers and what the lists then hold.
 // A row is `LENGTHS | NAME | BYTES`: five list lengths, or `fit` for lists that are long enough, and the file in base sixteen.
+#![tactic(auto)]
+
 mod case;
 mod hex;
 mod shown;

@@ -11,7 +11,8 @@ pub fn show_all<T: Display + Copy>(
     text.push_str(title)?;
     for x in list {
         text.push_str(" ")?;
-        text.push_str(x.to_string(text.allocator())?.as_str())?;
+        let shown = x.to_string(*text.allocator())?;
+        text.push_str(shown.as_str())?;
     }
     Ok(())
 }
@@ -22,7 +23,8 @@ pub fn show_nodes(text: &mut String, title: &str, list: &[Node]) -> Result<(), A
         let condition = node.condition.number();
         let one = node.one;
         let zero = node.zero;
-        text.push_str(format!(in text.allocator(); " {condition}:{one}:{zero}")?.as_str())?;
+        let shown = format!(in *text.allocator(); " {condition}:{one}:{zero}")?;
+        text.push_str(shown.as_str())?;
     }
     Ok(())
 }

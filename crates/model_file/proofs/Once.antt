@@ -1,12 +1,8 @@
 -- A file has one reading: two answers for the same rest are the same, and so is what was read.
-use Rattle.std.proofs.Common.{◌≡◌, ℕ, ◌<◌, List, [], ◌∷◌, length, Some, None, Ok, Err, Option, Result, sym, refl, ◌∙◌, arith}
+use Rattle.std.proofs.Common.{◌≡◌, ℕ, List, Result, refl, arith}
 use Rattle.faults.specs.declared.Fault.{Fault}
-use Rattle.faults.specs.declared.Fault.TheVariants.{File}
-use Rattle.faults.specs.declared.FileFault.{FileFault}
-use Rattle.faults.specs.declared.FileFault.TheVariants.{NoRoots}
-use Rattle.faults.specs.Tests.{first_fault}
 use Rattle.model_file.specs.declared.draft.Draft.{Draft}
-use Rattle.model_file.specs.Reading.{Room, Taken, field_tests, draft_of, Reads}
+use Rattle.model_file.specs.Reading.{Room, Taken, Reads}
 use Rattle.model_file.specs.Reading.Reads.{ends, lacks, refuses, takes}
 
 pub reads_once : {room : Room} {t : Taken} {rest : List ℕ} {r q : Result Draft Fault} {t' u : Taken} → Reads room t rest r t' → Reads room t rest q u → (r ≡ q) × (t' ≡ u)

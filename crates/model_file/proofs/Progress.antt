@@ -1,17 +1,17 @@
 -- A reading on its way: what is read so far, and that whatever the rest comes to, the whole file comes to.
-use Rattle.std.proofs.Common.{◌≡◌, ℕ, ◌+◌, ◌-◌, ◌<◌, ◌≤◌, Bool, true, false, cond, eqb, leb, List, [], ◌∷◌, ◌++◌, length, take, drop, Some, None, Ok, Err, Option, Result, sym, refl, ap, ◌∙◌, subst, arith, length-drop}
+use Rattle.std.proofs.Common.{◌≡◌, ℕ, ◌+◌, ◌-◌, ◌<◌, ◌≤◌, Bool, true, false, cond, List, [], ◌∷◌, length, drop, Some, None, Ok, Err, Option, Result, sym, refl, ap, ◌∙◌, subst, arith, length-drop}
 use Rattle.std.proofs.lemmas.List.{drop-drop, drop_all, length-take-le}
 use Rattle.std.proofs.lemmas.Bool.{and_parts, leb-true}
 use Rattle.faults.specs.declared.Fault.{Fault}
 use Rattle.faults.specs.declared.Fault.TheVariants.{File}
 use Rattle.faults.specs.declared.FileFault.{FileFault}
 use Rattle.faults.specs.declared.FileFault.TheVariants.{CutShort, NoRoots, ListTooShort}
-use Rattle.faults.specs.Tests.{Test, test, first_fault}
+use Rattle.faults.specs.Tests.{first_fault}
 use Rattle.faults.proofs.Order.{first_holds, then_none, then_some}
 use Rattle.model_file.specs.declared.draft.Draft.{Draft}
 use Rattle.model_file.specs.declared.mark.Mark.{Mark}
-use Rattle.model_file.specs.Fields.{tag, body, body_length, whole, right_length, shape_tests}
-use Rattle.model_file.specs.Reading.{Lists, Taken, nothing, all_written, room_of, took, has_room, room_test, field_tests, draft_of, Reads, ReadInto, five}
+use Rattle.model_file.specs.Fields.{tag, body, body_length, whole, shape_tests}
+use Rattle.model_file.specs.Reading.{Lists, Taken, nothing, all_written, room_of, took, has_room, room_test, field_tests, draft_of, Reads, ReadInto}
 use Rattle.model_file.specs.Reading.Reads.{ends, lacks, refuses, takes}
 use Rattle.model_file.specs.Marks.{mark_of, Stored, Unstored}
 use Rattle.model_file.proofs.Once.{reads_once}

@@ -1,12 +1,12 @@
 -- A field of each tag is stored: its entries join those of its list, and nothing else changes.
-use Rattle.std.proofs.Common.{◌≡◌, ℕ, ◌+◌, ◌/◌, true, leb, List, ◌++◌, length, Result, sym, refl, ap, ◌∙◌, subst, arith, length-append}
+use Rattle.std.proofs.Common.{◌≡◌, ℕ, ◌+◌, ◌/◌, true, leb, List, ◌++◌, length, sym, ap, ◌∙◌, subst, length-append}
 use Rattle.std.proofs.lemmas.List.FromFn.{length-map-range_with_len}
 use Rattle.model_file.specs.declared.mark.Mark.{Mark}
 use Rattle.model_file.specs.declared.field.Field.{Field}
 use Rattle.model_file.specs.Entries.{entries, written, bytes_of, Appended}
 use Rattle.model_file.specs.Fields.{tag_of, body_of}
-use Rattle.model_file.specs.Reading.{Lists, Taken, all_written, room_of, took, has_room, draft_of}
-use Rattle.model_file.specs.Marks.{mark_of, Stored}
+use Rattle.model_file.specs.Reading.{Lists, Taken}
+use Rattle.model_file.specs.Marks.{Stored}
 
 -- what appending to the list of some entries xs comes to
 pub record Joined {X : Type 0} (w : ℕ) (f : List ℕ → X) (b : List ℕ) (xs old l l' : List X) (count : ℕ) : Type 0 where

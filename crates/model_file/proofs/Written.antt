@@ -1,9 +1,8 @@
 -- A list into which entries are written from its start: one entry more.
-use Rattle.std.proofs.Common.{◌≡◌, ℕ, ◌+◌, ◌-◌, ◌*◌, ◌/◌, ◌<◌, ◌≤◌, List, [], ◌∷◌, ◌++◌, length, get_or, drop, set, sym, refl, ap, ◌∙◌, append_assoc, add-mul, arith, length-append, length-drop}
+use Rattle.std.proofs.Common.{◌≡◌, ℕ, ◌+◌, ◌-◌, ◌*◌, ◌/◌, ◌<◌, ◌≤◌, List, [], ◌∷◌, ◌++◌, length, get_or, drop, set, sym, ap, ◌∙◌, append_assoc, add-mul, arith, length-append, length-drop}
 use Rattle.std.proofs.lemmas.List.{drop_more, set_at, length_push}
 use Rattle.std.proofs.lemmas.Nat.{mul-le, div-add-mod'}
 use Rattle.std.proofs.lemmas.List.FromFn.{map-range_with_len_more, length-map-range_with_len}
-use Rattle.std.specs.List.{range_with_len}
 use Rattle.model_file.specs.Entries.{first_entries, bytes_of, written}
 
 pub length_written : {X : Type 0} (xs old : List X) → length (written xs old) ≡ length xs + (length old - length xs)

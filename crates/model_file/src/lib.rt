@@ -1,4 +1,6 @@
 // The model file: fields, their entries, and the reading of a file into the caller's lists.
+#![tactic(auto)]
+
 mod append;
 pub mod draft;
 mod entry;

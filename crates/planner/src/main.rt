@@ -1,4 +1,6 @@
 // The planner: commands from standard input, a line each, and an answer a line.
+#![tactic(auto)]
+
 mod answers;
 mod command;
 mod lists;
@@ -15,7 +17,7 @@ use std::io::{Read, Write};
 use std::{fs, io};
 
 fn main(rt: HostRuntime) -> io::Result<()> {
-    let mut session = Session::new(rt.alloc(), rt.stdin(), rt.stdout());
+    let mut session = Session::new(rt.alloc(), rt.stdin(), rt.stdout())?;
     let mut next = serve(&mut session, &Model::blank(), false)?;
     for _ in 0..u64::MAX {
         let Some(path) = next else {

@@ -1,4 +1,8 @@
 // The input and output of the program, and how many commands it answered and refused.
+ghost use Rattle.std.specs.Prelude.{◌≡◌, IfOk, IfErr};
+ghost use Rattle.std.specs.IoError.{error_kind};
+ghost use Rattle.std.specs.declared.io.ErrorKind.TheVariants.{OutOfMemory};
+
 use faults::Fault;
 use std::alloc::Global;
 use std::io;
@@ -24,15 +28,19 @@ pub struct Session<I: Read + Drop, O: Write + Drop> {
 }
 
 impl<I: Read + Drop, O: Write + Drop> Session<I, O> {
-    pub fn new(heap: Global, input: I, output: O) -> Session<I, O> {
-        Session {
+    // Out of memory is the only error; the two streams are then dropped.
+    pub fn new(heap: Global, input: I, output: O) -> io::Result<Session<I, O>>
+        ensures begun { IfOk result (λ s. (s.commands ≡ 0) × (s.refused ≡ 0)) }
+        ensures err { IfErr result (λ e. error_kind e ≡ OutOfMemory) }
+    {
+        Ok(Session {
             heap,
-            input: BufReader::new(input),
-            out: BufWriter::new(output),
+            input: BufReader::new(heap, input)?,
+            out: BufWriter::new(heap, output)?,
             line: Vec::new(heap),
             commands: 0,
             refused: 0,
-        }
+        })
     }
 
     pub fn heap(&self) -> Global {

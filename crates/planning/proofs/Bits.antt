@@ -1,5 +1,5 @@
 -- The bits of a state with one bit more at the top.
-use Rattle.std.proofs.Common.{◌≡◌, ℕ, zero, suc, ◌+◌, ◌-◌, ◌*◌, ◌/◌, ◌%◌, ◌^◌, ◌<◌, ◌≤◌, true, false, cond, eqb, sym, refl, ap, ◌∙◌, one-mul, pow-suc, arith, pow_pos, pow-add}
+use Rattle.std.proofs.Common.{◌≡◌, ℕ, zero, suc, ◌+◌, ◌-◌, ◌*◌, ◌/◌, ◌%◌, ◌^◌, ◌<◌, ◌≤◌, true, cond, eqb, sym, refl, ap, ◌∙◌, one-mul, pow-suc, arith, pow_pos, pow-add}
 use native.Mathlib.Nat.{div-eq_of_lt, add-mul-div_right}
 use Rattle.diagram.specs.States.{bit}
 use Rattle.planning.specs.Values.{weight}

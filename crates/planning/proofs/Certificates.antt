@@ -1,5 +1,5 @@
 -- In every history no plan beats the moves of a draw by more than its loss and what is left of its tail.
-use Rattle.std.proofs.Common.{◌≡◌, ℕ, zero, suc, ◌+◌, ◌-◌, ◌*◌, ◌/◌, ◌^◌, ◌<◌, ◌≤◌, max, List, [], ◌∷◌, ℤ, pos, negsuc, ◌+ℤ◌, ◌-ℤ◌, ◌≤ℤ◌, sym, refl, ap, ◌∙◌, subst, ⊎_elim, mul_assoc, mul_comm, add-mul, mul-le-mul_left, pow-suc, mul-zero, mul-one, mul-suc, mul-add, arith, pow-add}
+use Rattle.std.proofs.Common.{◌≡◌, ℕ, zero, suc, ◌+◌, ◌-◌, ◌*◌, ◌^◌, ◌<◌, ◌≤◌, ◌∷◌, ℤ, pos, negsuc, ◌+ℤ◌, ◌-ℤ◌, ◌≤ℤ◌, sym, ap, ◌∙◌, subst, ⊎_elim, mul_assoc, mul_comm, add-mul, mul-le-mul_left, pow-suc, mul-zero, mul-one, mul-suc, mul-add, arith, pow-add}
 use native.Mathlib.Nat.{pow-zero, lt-mul-div-succ, mul-mul-mul_comm}
 use borrow.Author.Differences.{ints}
 use Rattle.std.proofs.lemmas.Bool.{cases_lt}
@@ -10,8 +10,8 @@ use Rattle.ranges.proofs.Multiples.{multiple_mono}
 use Rattle.planning.specs.Models.{Model, IsState, Sound}
 use Rattle.planning.specs.Values.{scale, worth, steady}
 use Rattle.planning.specs.Passes.{gathered, closed}
-use Rattle.planning.specs.Draws.{over, most_below, most, spread, rise, fall, tail, Draw, IsDraw}
-use Rattle.planning.specs.Histories.{History, Plan, margin, Certified, Holds, AdviceIsCertified}
+use Rattle.planning.specs.Draws.{over, most_below, most, spread, rise, fall, Draw, IsDraw}
+use Rattle.planning.specs.Histories.{Plan, Certified, AdviceIsCertified}
 use Rattle.planning.specs.Histories.History.{started, passed, pruned, drew}
 use Rattle.planning.proofs.Scaled.{times_sum, sum_times, times_times, times_pos, times_cancel}
 use Rattle.planning.proofs.Contained.{scale_zero}

@@ -1,6 +1,5 @@
 -- In every history the exact value lies within each state's range.
-use Rattle.std.proofs.Common.{◌≡◌, ℕ, zero, suc, ◌+◌, ◌-◌, ◌*◌, ◌^◌, ◌<◌, ◌≤◌, ℤ, pos, ◌+ℤ◌, ◌-ℤ◌, ◌≤ℤ◌, sym, refl, ap, ◌∙◌, subst, one-mul, mul-zero, arith}
-use native.Mathlib.Nat.{pow-zero}
+use Rattle.std.proofs.Common.{◌≡◌, ℕ, zero, suc, ◌+◌, ◌-◌, ◌^◌, ◌<◌, ℤ, pos, ◌-ℤ◌, ◌≤ℤ◌, sym, ap, ◌∙◌, subst, one-mul, mul-zero, arith}
 use borrow.Author.Differences.{ints}
 use Rattle.ranges.specs.declared.ends.Ends.{Ends}
 use Rattle.ranges.specs.Ranges.{ends}
@@ -9,7 +8,7 @@ use Rattle.ranges.proofs.Multiples.{multiple_mono}
 use Rattle.planning.specs.Models.{Model, IsState, Sound}
 use Rattle.planning.specs.Values.{scale, exact, expected, greatest}
 use Rattle.planning.specs.Passes.{closed, gathered}
-use Rattle.planning.specs.Histories.{History, Given, Contains, ValuesLieWithin}
+use Rattle.planning.specs.Histories.{Given, Contains, ValuesLieWithin}
 use Rattle.planning.specs.Histories.History.{started, passed, pruned, drew}
 use Rattle.planning.proofs.Scaled.{one_times, times_zero}
 use Rattle.planning.proofs.Gathers.{greatest_least, greatest_member, gathered_held}

@@ -1,14 +1,14 @@
 -- The lock's figures by computation, and a history of it.
-use Rattle.std.proofs.Common.{◌≡◌, ℕ, zero, suc, ◌+◌, ◌<◌, ◌≤◌, cond, eqb, [], ◌∷◌, ℤ, pos, ◌+ℤ◌, refl, arith}
+use Rattle.std.proofs.Common.{ℕ, zero, suc, ◌<◌, ◌≤◌, cond, eqb, pos, ◌+ℤ◌, refl, arith}
 use lib.Signed.{le_z_yes}
 use Rattle.std.proofs.lemmas.Bool.{cond_both}
 use Rattle.ranges.specs.declared.ends.Ends.{Ends}
 use Rattle.ranges.specs.Ranges.{ends, loss}
 use Rattle.ranges.specs.Whole.{◌·◌}
-use Rattle.planning.specs.Models.{IsState, Sound}
-use Rattle.planning.specs.Passes.{ranged, closed, drawn}
-use Rattle.planning.specs.Draws.{most, spread, rise, fall, tail, Draw, IsDraw}
-use Rattle.planning.specs.Histories.{History, Given}
+use Rattle.planning.specs.Models.{Sound}
+use Rattle.planning.specs.Passes.{ranged, drawn}
+use Rattle.planning.specs.Draws.{most, spread, rise, fall, tail, Draw}
+use Rattle.planning.specs.Histories.{Given}
 use Rattle.planning.specs.Histories.History.{started, passed, pruned, drew}
 use Rattle.planning.specs.Lock.{lock, ranges_after, Worked, SomeHistory}
 

@@ -1,5 +1,5 @@
 -- In every history no range is wider than the bound.
-use Rattle.std.proofs.Common.{◌≡◌, ℕ, zero, suc, ◌+◌, ◌-◌, ◌*◌, ◌/◌, ◌^◌, ◌<◌, ◌≤◌, max, ℤ, pos, ◌+ℤ◌, ◌-ℤ◌, ◌≤ℤ◌, ◌<ℤ◌, sym, refl, ap, ◌∙◌, subst, mul_comm, add-mul, mul-le-mul_left, mul-add, arith}
+use Rattle.std.proofs.Common.{◌≡◌, ℕ, zero, suc, ◌+◌, ◌-◌, ◌*◌, ◌/◌, ◌^◌, ◌<◌, ◌≤◌, max, ℤ, pos, ◌+ℤ◌, ◌-ℤ◌, ◌≤ℤ◌, ◌<ℤ◌, ap, subst, mul_comm, add-mul, mul-add, arith}
 use native.Mathlib.Nat.{mul-div-le, lt-mul-div-succ, two-pow-succ}
 use borrow.Author.Differences.{ints}
 use lib.Signed.{lt_z}
@@ -14,7 +14,7 @@ use Rattle.ranges.proofs.Multiples.{multiple_is, multiple_mono}
 use Rattle.ranges.proofs.Quotients.{floor_next, ceiling_next}
 use Rattle.planning.specs.Models.{Model, IsState, Sound}
 use Rattle.planning.specs.Passes.{averaged, ranged, gathered, closed}
-use Rattle.planning.specs.Histories.{span, History, Given, bound, Narrow, RangesStayNarrow}
+use Rattle.planning.specs.Histories.{span, Given, bound, Narrow, RangesStayNarrow}
 use Rattle.planning.specs.Histories.History.{started, passed, pruned, drew}
 use Rattle.planning.proofs.Scaled.{times_sum, times_pos, times_zero}
 use Rattle.planning.proofs.Stages.{mix_below}

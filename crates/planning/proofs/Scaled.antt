@@ -1,9 +1,9 @@
 -- The laws of a natural multiple of a whole number.
-use Rattle.std.proofs.Common.{◌≡◌, ℕ, zero, suc, ◌+◌, ◌-◌, ◌*◌, ◌<◌, ◌≤◌, ℤ, pos, ◌+ℤ◌, neg_ℤ, ◌≤ℤ◌, sym, ap, ◌∙◌, mul_assoc, mul_comm, add-mul, mul-le-mul_left, one-mul, mul-zero, mul-add, arith}
+use Rattle.std.proofs.Common.{◌≡◌, ℕ, ◌+◌, ◌*◌, ◌<◌, ℤ, pos, ◌+ℤ◌, ◌≤ℤ◌, sym, ap, ◌∙◌, mul_assoc, mul_comm, add-mul, one-mul, mul-zero, mul-add, arith}
 use native.Mathlib.Nat.{le_of_mul-le-mul_left}
-use borrow.Author.Differences.{ints, up, down, same_in, sum_is_lem, neg_is, le_out, at_most_in}
+use borrow.Author.Differences.{up, down, same_in, sum_is_lem, le_out, at_most_in}
 use Rattle.ranges.specs.Whole.{◌·◌}
-use Rattle.ranges.proofs.Multiples.{multiple_is, multiple_mono, multiple_neg}
+use Rattle.ranges.proofs.Multiples.{multiple_is}
 
 pub times_sum : (k : ℕ) (x y : ℤ) → k · (x +ℤ y) ≡ (k · x) +ℤ (k · y)
 times_sum k x y =

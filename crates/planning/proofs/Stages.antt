@@ -1,5 +1,5 @@
 -- Bounds go through the averages: what lies below the high ends, or above the low ends, before a move, does so after it.
-use Rattle.std.proofs.Common.{◌≡◌, ℕ, zero, suc, ◌+◌, ◌-◌, ◌*◌, ◌^◌, ◌<◌, ◌≤◌, ℤ, pos, ◌+ℤ◌, ◌≤ℤ◌, sym, ap, ◌∙◌, subst, mul_assoc, pow-suc, mul-one, arith, pow_pos}
+use Rattle.std.proofs.Common.{◌≡◌, ℕ, zero, suc, ◌+◌, ◌-◌, ◌*◌, ◌^◌, ◌<◌, ◌≤◌, ℤ, ◌+ℤ◌, ◌≤ℤ◌, sym, ap, ◌∙◌, mul_assoc, pow-suc, mul-one, arith}
 use native.Mathlib.Nat.{pow-succ', two-pow-succ}
 use borrow.Author.Differences.{ints}
 use Rattle.ranges.specs.declared.ends.Ends.{Ends}

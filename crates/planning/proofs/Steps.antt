@@ -1,5 +1,5 @@
 -- One stage more: a bound on the values one stage later becomes a bound by the ends that closing a pass gives.
-use Rattle.std.proofs.Common.{◌≡◌, ℕ, zero, suc, ◌+◌, ◌-◌, ◌*◌, ◌^◌, ◌<◌, ◌≤◌, ℤ, pos, ◌+ℤ◌, ◌≤ℤ◌, sym, refl, ap, ◌∙◌, subst, mul_assoc, mul_comm, pow-suc, mul-suc, add-one, arith, pow-add}
+use Rattle.std.proofs.Common.{◌≡◌, ℕ, suc, ◌+◌, ◌-◌, ◌*◌, ◌^◌, ◌<◌, ℤ, ◌+ℤ◌, ◌≤ℤ◌, sym, ap, ◌∙◌, subst, mul_assoc, pow-suc, mul-suc, add-one, arith, pow-add}
 use borrow.Author.Differences.{ints}
 use Rattle.ranges.specs.declared.ends.Ends.{Ends}
 use Rattle.ranges.specs.Whole.{◌·◌, floor, ceiling}
@@ -8,7 +8,7 @@ use Rattle.ranges.proofs.Quotients.{floor_below, ceiling_above}
 use Rattle.planning.specs.Models.{Model, IsState, Sound}
 use Rattle.planning.specs.Values.{scale, expected}
 use Rattle.planning.specs.Passes.{ranged, gathered, closed}
-use Rattle.planning.proofs.Scaled.{times_sum, times_times, times_swap, one_times}
+use Rattle.planning.proofs.Scaled.{times_sum, times_times, times_swap}
 use Rattle.planning.proofs.Sums.{sums_nested}
 use Rattle.planning.proofs.Stages.{stage_high, stage_low}
 use Rattle.planning.proofs.Gathers.{gathered_high, gathered_held}

@@ -1,11 +1,10 @@
 -- The sum over all states after a move is its conditions averaged one by one, the highest first.
-use Rattle.std.proofs.Common.{◌≡◌, ℕ, zero, suc, ◌+◌, ◌-◌, ◌*◌, ◌^◌, ◌<◌, cond, ℤ, pos, ◌+ℤ◌, sym, refl, ap, ◌∙◌, add-zero, add-suc, add_comm, arith}
+use Rattle.std.proofs.Common.{◌≡◌, ℕ, zero, suc, ◌+◌, ◌-◌, ◌*◌, ◌^◌, ◌<◌, cond, ℤ, ◌+ℤ◌, sym, refl, ap, ◌∙◌, add-zero, add-suc, add_comm, arith}
 use native.Mathlib.Nat.{two-pow-succ}
 use borrow.Author.Differences.{ints}
 use lib.IntN.{+ℤ_idl, +ℤ_idr, +ℤ_assoc, +ℤ_comm}
 use Rattle.ranges.specs.Ranges.{mixed}
 use Rattle.ranges.specs.Whole.{◌·◌}
-use Rattle.planning.specs.Models.{Model}
 use Rattle.planning.specs.Values.{weight, sum, expected, nested, SumsAreNested}
 use Rattle.diagram.proofs.Bits.{bit_clear}
 use Rattle.planning.proofs.Bits.{top_set, weight_same}

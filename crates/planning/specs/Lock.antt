@@ -3,7 +3,7 @@
 --     ranges_after k   the ranges after k passes
 --     Worked           all its figures, and one average below zero
 --     SomeHistory      the lock has a history with one pass, a pruning of strength 151 and one draw
-use Rattle.std.specs.Prelude.{◌≡◌, ℕ, zero, suc, cond, [], ◌∷◌, ℤ, pos, negsuc, ◌==◌}
+use Rattle.std.specs.Prelude.{◌≡◌, ℕ, zero, suc, cond, [], ◌∷◌, pos, negsuc, ◌==◌}
 use Rattle.ranges.specs.declared.ends.Ends.{Ends}
 use Rattle.ranges.specs.Ranges.{ends, average, loss}
 use Rattle.planning.specs.Models.{Model, Sound}

@@ -1,4 +1,6 @@
 // What the planner's numbers mean, and that they are sound: exact values, passes, draws, histories, and the theorems about them.
+#![tactic(auto)]
+
 ghost use Rattle.planning.specs.Histories.{ValuesLieWithin, RangesStayNarrow, AdviceIsCertified};
 ghost use Rattle.planning.specs.Lock.{Worked, SomeHistory};
 ghost use Rattle.planning.specs.Values.{SumsAreNested};

@@ -1,4 +1,6 @@
 // Ranges of whole numbers, and the arithmetic of a pass: rounding, the average by a chance, the discount, the reward, the loss.
+#![tactic(auto)]
+
 pub mod ends;
 pub mod interned;
 pub mod loss;

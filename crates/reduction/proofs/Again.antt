@@ -1,19 +1,19 @@
 -- A function that is listed already walks to its reference and adds nothing.
-use Rattle.std.proofs.Common.{◌≡◌, ℕ, zero, suc, ◌+◌, ◌-◌, ◌<◌, ◌≤◌, Bool, true, false, cond, eqb, ltb, leb, List, [], ◌∷◌, ◌++◌, length, get_or, sym, refl, ap, ◌∙◌, subst, ⊎_elim, arith}
+use Rattle.std.proofs.Common.{◌≡◌, ℕ, zero, suc, ◌+◌, ◌-◌, ◌<◌, ◌≤◌, Bool, true, false, eqb, leb, List, [], ◌∷◌, ◌++◌, length, get_or, sym, refl, ap, ◌∙◌, subst, ⊎_elim, arith}
 use Rattle.std.proofs.lemmas.List.{get_or_append_left, get_or_push, length_push}
-use Rattle.std.proofs.lemmas.Bool.{cond-true, cond-false, cond_both, cases_lt, cases_Bool, and_parts, lt-ltb, le-ltb, leb-true, eq-eqb, ne_eqb, eqb-true, eqb-false, false≢true}
+use Rattle.std.proofs.lemmas.Bool.{cond-true, cond-false, cond_both, cases_lt, cases_Bool, and_parts, lt-ltb, le-ltb, leb-true, eq-eqb, ne_eqb, eqb-true, eqb-false}
 use Rattle.diagram.specs.declared.conditions.Condition.{Condition}
 use Rattle.diagram.specs.declared.conditions.Condition.TheVariants.{Before, After}
 use Rattle.diagram.specs.declared.nodes.Node.{Node}
-use Rattle.diagram.specs.Lawful.{blank, node_at, named, names, Lawful}
+use Rattle.diagram.specs.Lawful.{blank, named, names, Lawful}
 use Rattle.diagram.specs.Order.{level, exists}
-use Rattle.diagram.specs.Reads.{branch, tests, descend, reach}
+use Rattle.diagram.specs.Reads.{tests, descend, reach}
 use Rattle.reduction.specs.Listed.{Same, index, listed}
 use Rattle.reduction.specs.Walk.{condition_at, same_node, Made, node_for, link, walk, reduced}
 use Rattle.reduction.specs.Canonical.{both, Distinct, Parted}
 use Rattle.reduction.proofs.Interning.{missed, index_unique, listed_cases}
 use Rattle.reduction.proofs.Levels.{node_sameness}
-use Rattle.reduction.proofs.Growth.{Above, node_within, descend_named, descend_above, exists_named, reach_ends}
+use Rattle.reduction.proofs.Growth.{node_within, descend_named, descend_above, exists_named, reach_ends}
 use Rattle.reduction.proofs.Walked.{Stands, walk_stands}
 
 -- m's lists with another root

@@ -1,16 +1,15 @@
 -- Lawful tables that grow: what a reference leads to stays, and one more lawful node leaves the table lawful.
-use Rattle.std.proofs.Common.{◌≡◌, ℕ, zero, suc, ◌+◌, ◌-◌, ◌<◌, ◌≤◌, Bool, true, false, cond, ◌&&◌, eqb, ltb, leb, List, [], ◌∷◌, ◌++◌, length, get_or, sym, refl, ap, ◌∙◌, subst, ⊎_elim, arith}
+use Rattle.std.proofs.Common.{◌≡◌, ℕ, suc, ◌+◌, ◌-◌, ◌<◌, ◌≤◌, Bool, true, false, cond, ◌&&◌, eqb, ltb, leb, List, [], ◌∷◌, ◌++◌, length, sym, refl, ap, ◌∙◌, subst, ⊎_elim, arith}
 use Rattle.std.proofs.lemmas.List.{get_or_append_left, get_or_push, length_push}
-use Rattle.std.proofs.lemmas.Bool.{cond-true, cond-false, cases_lt, cases_Bool, and_parts, and_from, and_left, lt-ltb, le-ltb, ltb-true, le-leb, lt-leb, leb-true, eq-eqb, eqb-true, eqb-false, ne_eqb, false≢true}
+use Rattle.std.proofs.lemmas.Bool.{cond-true, cond-false, cases_lt, cases_Bool, and_parts, and_from, and_left, lt-ltb, le-ltb, ltb-true, le-leb, lt-leb, leb-true, eq-eqb, eqb-true, false≢true}
 use Rattle.diagram.specs.declared.conditions.Condition.{Condition}
-use Rattle.diagram.specs.declared.conditions.Domain.{Domain}
 use Rattle.diagram.specs.declared.nodes.Node.{Node}
-use Rattle.diagram.specs.Lawful.{blank, node_at, named, names, later, branch_is_lawful, node_is_lawful, Lawful}
+use Rattle.diagram.specs.Lawful.{blank, node_at, named, names, later, branch_is_lawful, Lawful}
 use Rattle.diagram.specs.Order.{level, exists}
 use Rattle.diagram.specs.Reads.{branch, tests, descend, reach}
 use Rattle.diagram.proofs.Steps.{earlier_names}
 use Rattle.reduction.specs.Canonical.{both}
-use Rattle.reduction.proofs.Interning.{Grown, grown_getD, grown_length}
+use Rattle.reduction.proofs.Interning.{Grown, grown_getD}
 use Rattle.reduction.proofs.Levels.{level_below}
 
 -- r is a leaf, or a node whose level is k or later

@@ -2,8 +2,8 @@
 use Rattle.std.proofs.Common.{◌≡◌, ℕ, zero, suc, ◌+◌, ◌≤◌, Bool, true, false, List, [], ◌∷◌, length, get_or, sym, refl, ap, ◌∙◌, subst, arith}
 use Rattle.diagram.specs.declared.nodes.Node.{Node}
 use Rattle.reduction.specs.Listed.{Same, index, listed}
-use Rattle.reduction.specs.Walk.{Made, link, walk, reduced}
-use Rattle.reduction.specs.Canonical.{Agree, says, ReadsBack, TablesReadBack, OneTable, TablesAreCanonical}
+use Rattle.reduction.specs.Walk.{Made, link, walk}
+use Rattle.reduction.specs.Canonical.{Agree, says, TablesReadBack, TablesAreCanonical}
 use Rattle.reduction.proofs.Walked.{walk_stands}
 use Rattle.reduction.proofs.Again.{nothing, walk_tidy, same_again}
 

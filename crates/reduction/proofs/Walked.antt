@@ -1,13 +1,13 @@
 -- A walk only adds to the lists, leaves them lawful, and its root reads back the function.
-use Rattle.std.proofs.Common.{◌≡◌, ℕ, zero, suc, ◌+◌, ◌-◌, ◌<◌, ◌≤◌, Bool, true, false, cond, eqb, ltb, leb, List, [], ◌∷◌, ◌++◌, length, get_or, sym, refl, ap, ◌∙◌, subst, ⊎_elim, arith}
+use Rattle.std.proofs.Common.{◌≡◌, ℕ, zero, suc, ◌+◌, ◌-◌, ◌<◌, ◌≤◌, Bool, true, false, eqb, ltb, leb, List, [], ◌∷◌, length, get_or, sym, refl, ap, ◌∙◌, subst, ⊎_elim, arith}
 use Rattle.std.proofs.lemmas.List.{nil_from_length}
 use Rattle.std.proofs.lemmas.Bool.{cond-true, cond-false, cond_both, cases_lt, cases_Bool, and_parts, and_from, lt-ltb, le-ltb, le-leb, leb-true, eq-eqb, eqb-true}
 use Rattle.diagram.specs.declared.nodes.Node.{Node}
 use Rattle.diagram.specs.Lawful.{blank, named, names, later, Lawful}
-use Rattle.diagram.specs.Order.{level, exists}
+use Rattle.diagram.specs.Order.{level}
 use Rattle.diagram.specs.Reads.{branch, tests, descend, reach}
 use Rattle.reduction.specs.Listed.{Same, index, listed}
-use Rattle.reduction.specs.Walk.{condition_at, same_node, Made, node_for, link, walk}
+use Rattle.reduction.specs.Walk.{same_node, Made, node_for, link, walk}
 use Rattle.reduction.specs.Canonical.{both}
 use Rattle.reduction.proofs.Interning.{Grown, grown_none, grown_more, grown_length, grown_getD, listed_grown, listed_at, listed_within, listed_cases}
 use Rattle.reduction.proofs.Levels.{level_at, exists_at, node_sameness}

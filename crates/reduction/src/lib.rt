@@ -1,4 +1,6 @@
 // The one reduced table of a function, and that it stands for that function alone.
+#![tactic(auto)]
+
 ghost use Rattle.reduction.specs.Canonical.{TablesReadBack, TablesAreCanonical};
 ghost use Rattle.reduction.specs.Mapped.{MappingNeverGrows};
 

@@ -1,10 +1,9 @@
 -- Three references over a level: where they lead, and that a level none of them tests leaves them as they are.
-use Rattle.std.proofs.Common.{◌≡◌, ℕ, suc, ◌<◌, ◌≤◌, Bool, List, ◌∷◌, length, refl, ap, ◌∙◌, arith}
+use Rattle.std.proofs.Common.{◌≡◌, ℕ, suc, ◌<◌, ◌≤◌, Bool, List, ◌∷◌, length, get_or, refl, arith}
 use Rattle.diagram.specs.Reads.{reach}
 use Rattle.sources.specs.declared.spot.Spot.{Spot}
 use Rattle.sources.specs.declared.three.Sources.{Sources}
-use Rattle.sources.specs.Inputs.{place, value}
-use Rattle.sources.specs.Spots.{levels, top, down, AllNamed, AllReadable, values}
+use Rattle.sources.specs.Spots.{levels, top, down, AllNamed, AllReadable, Allowed, values}
 use Rattle.sources.proofs.Stepping.{step_quiet, place_le, leaf_at, step_named, step_later}
 
 module _ {A B C : Type 0} (S : Sources A B C) where
@@ -55,3 +54,10 @@ module _ {A B C : Type 0} (S : Sources A B C) where
           second = leaf_at S.second (levels S) ok.second at.second h.second (omega arith);
           third = leaf_at S.third (levels S) ok.third at.third h.third (omega arith);
         }
+
+    -- what is asked of three leaves holds there
+    pub allowed_at : (can : A → B → C → Type 0) (a : A) (b : B) (c : C) (at : Spot) → Allowed can a b c S → AllNamed S at → top S at ≡ levels S → (x : A) (y : B) (z : C) →
+        x ≡ get_or S.first.leaves.now at.first a → y ≡ get_or S.second.leaves.now at.second b → z ≡ get_or S.third.leaves.now at.third c → can x y z
+    allowed_at can a b c at allowed h end x y z p q r =
+        let all = leaves_at at h end in
+        rw (p, q, r) (allowed at.first at.second at.third all.first all.second all.third)

@@ -1,6 +1,6 @@
 -- A lawful table over states gives each state its leaf, read over the conditions before a move or over those after it.
-use Rattle.std.proofs.Common.{◌≡◌, ℕ, suc, ◌+◌, ◌-◌, ◌<◌, ◌≤◌, Bool, true, false, cond, ◌&&◌, eqb, leb, List, [], ◌∷◌, ◌++◌, length, get_or, sym, refl, ap, ◌∙◌, subst, ⊎_elim, add-zero, add-suc, zero-add, arith, length-append}
-use Rattle.std.proofs.lemmas.Bool.{cond-true, cond-false, cases_lt, cases_eq, and_parts, and_left, lt-leb, eq-eqb, ne_eqb, false≢true}
+use Rattle.std.proofs.Common.{◌≡◌, ℕ, suc, ◌+◌, ◌-◌, ◌<◌, ◌≤◌, Bool, true, cond, ◌&&◌, leb, List, [], ◌∷◌, ◌++◌, length, get_or, sym, refl, ap, ◌∙◌, ⊎_elim, add-zero, add-suc, arith, length-append}
+use Rattle.std.proofs.lemmas.Bool.{cond-false, cases_lt, cases_eq, and_parts, and_left, lt-leb, eq-eqb, ne_eqb, false≢true}
 use Rattle.diagram.specs.declared.conditions.Condition.{Condition}
 use Rattle.diagram.specs.declared.conditions.Condition.TheVariants.{Before, After}
 use Rattle.diagram.specs.declared.nodes.Node.{Node}
@@ -10,12 +10,9 @@ use Rattle.diagram.specs.Reads.{branch, tests, descend, reach, leaf_of}
 use Rattle.diagram.specs.States.{bits_from}
 use Rattle.diagram.proofs.Bits.{length_bits}
 use Rattle.diagram.proofs.Steps.{reach_skip, leaf_quiet, node_quiet}
-use Rattle.reduction.specs.Canonical.{both}
 use Rattle.reduction.proofs.Growth.{node_within, descend_named, reach_ends}
 use Rattle.reduction.proofs.Levels.{states_both}
-use Rattle.sources.specs.declared.input.Input.{Input}
-use Rattle.sources.specs.Inputs.{Named}
-use Rattle.sources.specs.Views.{StateRead, StatesAreRead}
+use Rattle.sources.specs.Views.{StatesAreRead}
 use Rattle.sources.proofs.Seeing.{seen_before}
 
 -- a condition of a table over states stands n levels later before a move than its number

@@ -1,7 +1,7 @@
 -- In a readable diagram a step over a level leads to something named that tests only later levels, and a reference that does not test the level stays.
-use Rattle.std.proofs.Common.{◌≡◌, ℕ, suc, ◌-◌, ◌<◌, ◌≤◌, Bool, true, false, eqb, ltb, leb, List, ◌∷◌, length, sym, refl, ap, ◌∙◌, subst, ⊎_elim, arith}
+use Rattle.std.proofs.Common.{◌≡◌, ℕ, suc, ◌-◌, ◌<◌, ◌≤◌, Bool, true, false, eqb, leb, List, ◌∷◌, length, sym, refl, ◌∙◌, subst, ⊎_elim, arith}
 use Rattle.std.proofs.lemmas.Bool.{cond-true, cond-false, cases_lt, and_from, lt-ltb, le-ltb, ltb-true, le-leb, eq-eqb, false≢true}
-use Rattle.diagram.specs.Lawful.{node_at, named, names}
+use Rattle.diagram.specs.Lawful.{named}
 use Rattle.diagram.specs.Order.{level}
 use Rattle.diagram.specs.Reads.{branch, tests, reach}
 use Rattle.diagram.proofs.Steps.{earlier_names}

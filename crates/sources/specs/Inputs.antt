@@ -7,7 +7,6 @@
 --     Named i r              r names a leaf or a node of the diagram
 --     Readable i levels      each node tests a level below `levels`, and each of its branches names a leaf, or an earlier node that tests a later level
 use Rattle.std.specs.Prelude.{◌≡◌, ℕ, suc, ◌<◌, Bool, true, cond, List, [], ◌∷◌, length, ◌==◌, nat_lt, slice_index_or}
-use Rattle.diagram.specs.declared.nodes.Node.{Node}
 use Rattle.diagram.specs.Lawful.{node_at, named, names, later}
 use Rattle.diagram.specs.Order.{level}
 use Rattle.diagram.specs.Reads.{descend, reach}

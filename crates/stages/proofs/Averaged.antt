@@ -1,5 +1,5 @@
 -- A stage is the average of the one before it, and the stages come to the range of a move.
-use Rattle.std.proofs.Common.{◌≡◌, ℕ, zero, suc, ◌+◌, ◌-◌, ◌^◌, ◌<◌, ◌≤◌, Bool, true, false, List, [], ◌∷◌, ◌++◌, length, get_or, take, drop, set, sym, refl, ap, ◌∙◌, arith, take-append-drop, drop-cons}
+use Rattle.std.proofs.Common.{◌≡◌, ℕ, zero, suc, ◌+◌, ◌-◌, ◌^◌, ◌<◌, Bool, true, false, List, [], ◌∷◌, ◌++◌, length, get_or, take, drop, set, sym, ap, ◌∙◌, arith, take-append-drop, drop-cons}
 use lib.Seq.{set-append_seam}
 use Rattle.std.proofs.lemmas.List.{length-take-le}
 use Rattle.diagram.specs.States.{number_of}
@@ -7,7 +7,7 @@ use Rattle.ranges.specs.declared.ends.Ends.{Ends}
 use Rattle.ranges.specs.Ranges.{average}
 use Rattle.planning.specs.Models.{Model}
 use Rattle.planning.specs.Passes.{averaged, ranged}
-use Rattle.stages.specs.Parts.{over_states, over_after, part, parts, PartsAreAveraged, PartsComeToRanges}
+use Rattle.stages.specs.Parts.{over_states, part, parts, PartsAreAveraged, PartsComeToRanges}
 use Rattle.stages.proofs.Snoc.{number_one, number_zero, take_front, take_through, drop_past}
 
 -- the same, the bits cut around the condition

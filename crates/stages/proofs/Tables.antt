@@ -1,7 +1,6 @@
 -- Tables as inputs of a combination: a table over states says what it says of each state, and a reduced table reads its function, at a fixed level too.
-use Rattle.std.proofs.Common.{◌≡◌, ℕ, ◌+◌, ◌<◌, ◌≤◌, Bool, List, ◌++◌, length, get_or, take, drop, set, sym, refl, ap, ◌∙◌, subst, arith, length-drop, length-set, take-append-drop}
+use Rattle.std.proofs.Common.{◌≡◌, ℕ, ◌+◌, ◌<◌, ◌≤◌, Bool, List, ◌++◌, length, get_or, take, drop, set, sym, ap, ◌∙◌, subst, arith, length-drop, length-set, take-append-drop}
 use Rattle.std.proofs.lemmas.List.{length-take-le}
-use Rattle.diagram.specs.declared.nodes.Node.{Node}
 use Rattle.diagram.specs.Lawful.{Lawful}
 use Rattle.diagram.specs.Order.{states}
 use Rattle.diagram.specs.Reads.{reach, leaf_of}

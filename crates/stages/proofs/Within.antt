@@ -3,7 +3,7 @@ use Rattle.std.proofs.Common.{◌≡◌, ℕ, zero, suc, ◌+◌, ◌-◌, ◌*�
 use borrow.Author.Differences.{ints, up, down, neg_is}
 use Rattle.ranges.specs.declared.ends.Ends.{Ends}
 use Rattle.ranges.specs.Ranges.{Ordered, Inside, mixed, average}
-use Rattle.ranges.specs.Whole.{◌·◌, floor, ceiling}
+use Rattle.ranges.specs.Whole.{floor, ceiling}
 use Rattle.ranges.proofs.Multiples.{multiple_is, multiple_mono}
 use Rattle.ranges.proofs.Quotients.{floor_below, floor_next, ceiling_above, ceiling_next}
 use Rattle.stages.specs.Parts.{part}

@@ -1,4 +1,6 @@
 // A pass as functions of bits: what the tables of its stages say, and that they come to the ranges of the pass.
+#![tactic(auto)]
+
 ghost use Rattle.stages.specs.Parts.{PartsAreAveraged, PartsComeToRanges};
 
 // Averaging one condition more leads from one stage to the next.

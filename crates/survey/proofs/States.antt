@@ -1,11 +1,11 @@
 -- The greatest over all bits is the greatest over all states, where the bits after a move are no matter.
-use Rattle.std.proofs.Common.{◌≡◌, ℕ, ◌+◌, ◌^◌, ◌<◌, ◌≤◌, Bool, List, ◌++◌, length, take, drop, sym, ap, ◌∙◌, subst, arith, length-append, length-drop, take-append-drop}
+use Rattle.std.proofs.Common.{◌≡◌, ◌+◌, ◌≤◌, ◌++◌, length, take, drop, sym, ap, ◌∙◌, subst, arith, length-append, length-drop, take-append-drop}
 use Rattle.std.proofs.lemmas.List.{length-take-le}
 use Rattle.diagram.specs.States.{bits_from, number_of}
 use Rattle.diagram.proofs.Bits.{length_bits}
 use Rattle.diagram.proofs.Numbers.{states_are_bits}
 use Rattle.survey.specs.Greatest.{greatest}
-use Rattle.survey.specs.OverStates.{GreatestOfStates, SurveysCoverStates}
+use Rattle.survey.specs.OverStates.{SurveysCoverStates}
 use Rattle.survey.proofs.Greatests.{greatest_is_greatest}
 
 pub surveys_cover_states : SurveysCoverStates

@@ -1,5 +1,5 @@
 -- What a visit comes to: at three leaves, at what was surveyed before, and at a level that is tested; and what the memo says after it.
-use Rattle.std.proofs.Common.{◌≡◌, ℕ, zero, suc, ◌+◌, ◌-◌, ◌<◌, ◌≤◌, max, Bool, true, false, List, length, get_or, set, sym, refl, ap, ◌∙◌, subst, ⊎_elim, arith, length-set, get_or-set_other, get_or-set_same}
+use Rattle.std.proofs.Common.{◌≡◌, ℕ, suc, ◌+◌, ◌<◌, ◌≤◌, max, Bool, true, false, List, length, set, sym, ap, ◌∙◌, subst, ⊎_elim, arith, length-set, get_or-set_other, get_or-set_same}
 use Rattle.std.proofs.lemmas.Bool.{cases_eq}
 use Rattle.sources.specs.declared.memo.Entry.{Entry}
 use Rattle.sources.specs.declared.spot.Spot.{Spot}
@@ -8,7 +8,6 @@ use Rattle.sources.specs.Memos.{none, slot, kept, entry_at, remembered}
 use Rattle.sources.specs.Spots.{levels, top, down, AllNamed, AllReadable, values}
 use Rattle.sources.proofs.Descents.{top_le}
 use Rattle.sources.proofs.Recalls.{slot_below, remembered_means}
-use Rattle.survey.specs.Greatest.{greatest}
 use Rattle.survey.specs.Surveyed.{greatest_from, Passed, Surveyed}
 use Rattle.survey.proofs.Levels.{at_node, to_top}
 

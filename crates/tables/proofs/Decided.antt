@@ -1,5 +1,5 @@
 -- The test of a table tells whether the table is lawful.
-use Rattle.std.proofs.Common.{◌≡◌, ℕ, Bool, true, List, length, take, Decides, sym, subst}
+use Rattle.std.proofs.Common.{◌≡◌, ℕ, Bool, true, List, take, Decides, sym, subst}
 use Rattle.std.proofs.lemmas.List.{length-take-le}
 use Rattle.std.proofs.lemmas.Bool.{leb-true, le-leb}
 use Rattle.std.proofs.lemmas.Bool.Decides.{Decides-and, Decides-like}

@@ -1,4 +1,6 @@
 // Lawful tables: the counted leaves and nodes of two lists, with a root.
+#![tactic(auto)]
+
 pub mod lawful;
 pub mod limits;
 pub mod over_states;

@@ -4,14 +4,14 @@ use Rattle.build.proofs.build.build.Goals as goal
 
 pub returns : goal.returns
 returns g c =
-    let e = c.in-ok-root.ensures in
+    let e = c.in_ok-root.ensures in
     let l = c.combine.new.leaves in
     let k = c.combine.new.nodes in
-    let r = c.in-ok-root.root in
+    let r = c.in_ok-root.root in
     record {
-      built = stands g.Out.Interned.equal _ _ l k r e.combined _ _ (search rules) (search rules) c.args.capacity e.leaves_stay.capacity e.nodes_stay.capacity;
+      built = stands g.C.Out.Interned.equal _ _ l k r e.combined _ _ (search rules) (search rules) c.args.capacity e.leaves_stay.capacity e.nodes_stay.capacity;
       lawful =
-          lawful_extent g.Out.Interned.equal _ _ l k r e.combined _ _ refl (search rules) (record { means = g.met.Out.Interned.means; self = g.met.Out.Interned.reflexive })
+          lawful_extent g.C.Out.Interned.equal _ _ l k r e.combined _ _ refl (search rules) (record { means = g.met.C.Out.Interned.means; self = g.met.C.Out.Interned.reflexive })
           (omega (arith, e.leaves_stay.capacity, c.requires.roomy.small));
       ready = search rules;
       lent = search rules;

@@ -12,8 +12,8 @@ returns g c =
       readable =
           λ yes.
           ⊎_elim
-          (λ past. readable_after i n (omega arith) (subst (λ b. Lawful (record { conditions = n; after = b }) (length i.leaves.now) i.nodes.now) (ne_eqb _ _ past.0) (c.is-lawful.ensures yes)))
-          (λ own. readable_own i _ own (c.is-lawful.ensures yes))
+          (λ past. readable_after i n (omega arith) (subst (λ b. Lawful (record { conditions = n; after = b }) (length i.leaves.now) i.nodes.now) (ne_eqb _ _ past.0) (c.is_lawful.ensures yes)))
+          (λ own. readable_own i _ own (c.is_lawful.ensures yes))
           c.else-not-after.either;
       named = λ yes. search rules;
     }

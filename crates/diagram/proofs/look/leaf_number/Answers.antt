@@ -1,16 +1,16 @@
-use Rattle.std.proofs.Common.{◌<◌, sym, ap, ◌∙◌, subst, arith}
+use Rattle.std.proofs.Common.{sym, ap, ◌∙◌, subst}
 use Rattle.std.proofs.lemmas.Bool.{ltb-true, cond-true, lt-ltb}
-use Rattle.diagram.specs.Reads.{branch, value_in}
+use Rattle.diagram.specs.Reads.{branch}
 use Rattle.diagram.specs.Lawful.{named}
 use Rattle.diagram.proofs.Steps.{Follows, follow, reach_leaf}
 use Rattle.diagram.proofs.look.leaf_number.Goals as goal
 
 -- what a turn makes of the reference
-turned : (c : goal.After-branch-for-reference) → Follows c.args.conditions c.args.leaves c.args.nodes.now c.args.state c.loop-reference.reference c.branch-for-reference.result
+turned : (c : goal.After-branch_for-reference) → Follows c.args.conditions c.args.leaves c.args.nodes.now c.args.state c.loop-reference.reference c.branch_for-reference.result
 turned c =
     let nodes = c.args.nodes.now in
     let r = c.loop-reference.reference in
-    let to = c.branch-for-reference.ensures ∙ ap (λ v. branch v (named nodes r)) c.holds.ensures in
+    let to = c.branch_for-reference.ensures ∙ ap (λ v. branch v (named nodes r)) c.holds.ensures in
     subst (Follows _ _ nodes c.args.state r) (sym to) (follow _ _ nodes c.args.state r c.requires.lawful c.loop-reference.invariant.0 c.loop-reference-test.true)
 
 pub loop-reference-preserved : goal.loop-reference-preserved

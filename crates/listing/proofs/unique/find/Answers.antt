@@ -15,7 +15,7 @@ pub loop-at-init : goal.loop-at-init
 loop-at-init g c =
     let m = g.X.Interned in
     let list = c.args.list.now in
-    begins m.equal m.digested m.blank (sameness g) list c.requires c.args.x c.head-of-at.result (c.head-of-at.ensures ∙ ap (head_in m.digested m.blank list) c.bucket.ensures)
+    begins m.equal m.digested m.blank (sameness g) list c.requires c.args.x c.head_of-at.result (c.head_of-at.ensures ∙ ap (head_in m.digested m.blank list) c.bucket.ensures)
 
 -- what the test told of the thing at the place before `at`
 told : (g : given.Over) (c : After-same g) (v : Bool) → c.same.result ≡ v → g.X.Interned.equal (get_or c.args.list.now.items.now (c.loop-at.at - 1) g.X.Interned.blank) c.args.x ≡ v

@@ -1,4 +1,4 @@
-use Rattle.std.proofs.Common.{◌≡◌, ◌+◌, ◌-◌, ◌*◌, ◌/◌, ◌<◌, ◌≤◌, length, take, drop, set, sym, ap, ◌∙◌, arith, rules}
+use Rattle.std.proofs.Common.{◌≡◌, ◌+◌, ◌-◌, ◌*◌, ◌/◌, ◌≤◌, length, take, drop, set, ap, ◌∙◌, arith, rules}
 use Rattle.model_file.specs.Entries.{bytes_of}
 use Rattle.model_file.proofs.Written.{entry_within, entry_more}
 use Rattle.model_file.proofs.append.write_entries.Given as given
@@ -7,14 +7,14 @@ use Rattle.model_file.proofs.append.write_entries.Goals as goal
 within : (g : given.Over) (c : goal.In-loop-j g) → c.loop-j.j * c.size-size.result + c.size-size.result ≤ length c.args.body.now
 within g c = entry_within _ _ _ (omega (arith, g.met.E.Entry.some)) c.loop-j-test.true
 
-pub overflow-mul-from : goal.overflow-mul-from
-overflow-mul-from g c = let t = within g c in search rules
+pub overflow_mul-from : goal.overflow_mul-from
+overflow_mul-from g c = let t = within g c in search rules
 
-pub overflow-add-from : goal.overflow-add-from
-overflow-add-from g c = let t = within g c in search rules
+pub overflow_add-from : goal.overflow_add-from
+overflow_add-from g c = let t = within g c in search rules
 
-pub slice-bounds-decode-end : goal.slice-bounds-decode-end
-slice-bounds-decode-end g c = let t = within g c in search rules
+pub slice_bounds-decode-end : goal.slice_bounds-decode-end
+slice_bounds-decode-end g c = let t = within g c in search rules
 
 pub loop-j-preserved : goal.loop-j-preserved
 loop-j-preserved g c xs old long was =

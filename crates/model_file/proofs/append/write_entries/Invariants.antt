@@ -1,4 +1,4 @@
-use Rattle.std.proofs.Common.{◌≡◌, ℕ, List, ◌++◌, length}
+use Rattle.std.proofs.Common.{◌≡◌, List, ◌++◌, length}
 use Rattle.model_file.specs.Entries.{first_entries, written}
 use Rattle.model_file.proofs.append.write_entries.Given as goal
 

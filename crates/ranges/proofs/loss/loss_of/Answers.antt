@@ -2,8 +2,8 @@ use Rattle.std.proofs.Common.{◌+◌, ◌-◌, ◌*◌, ◌^◌, div-le_self, a
 use Rattle.std.proofs.lemmas.Nat.{mul-le}
 use Rattle.ranges.proofs.loss.loss_of.Goals as goal
 
-pub overflow-add-result-2 : goal.overflow-add-result-2
-overflow-add-result-2 c =
+pub overflow_add-result-2 : goal.overflow_add-result-2
+overflow_add-result-2 c =
     let b = c.from.result in
     let changes = c.args.rise + c.args.fall in
     let rest = c.from-rest.result in

@@ -7,6 +7,6 @@ pub returns : goal.returns
 returns c =
     let z = c.args.z in
     let d = c.args.d in
-    let e : to_z w64 (of_z w64 c.opposite-floor.result) ≡ ceiling d z = search rules in
+    let e : to_z w64 (of_z w64 c.opposite_floor.result) ≡ ceiling d z = search rules in
     let l = ceiling_laws d c.requires.some z _ e in
     record { value = e; above = l.0; next = l.1 }

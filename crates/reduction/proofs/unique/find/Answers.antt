@@ -1,4 +1,4 @@
-use Rattle.std.proofs.Common.{◌≡◌, ℕ, ◌-◌, ◌%◌, ◌<◌, ◌≤◌, Bool, true, false, length, get_or, sym, ap, ◌∙◌, subst, arith}
+use Rattle.std.proofs.Common.{◌≡◌, ◌-◌, ◌%◌, ◌<◌, Bool, true, false, length, get_or, sym, ap, ◌∙◌, subst, arith}
 use Rattle.std.proofs.lemmas.Nat.{mod_below}
 use Rattle.std.proofs.lemmas.List.{get_or_read}
 use Rattle.reduction.specs.Hashing.{bucket_of, cleaned}
@@ -17,8 +17,8 @@ loop-at-init g c =
     let heads = c.args.heads.now in
     let b = m.digested c.args.x % length heads in
     let inside : b < length heads = mod_below (m.digested c.args.x) (length heads) c.requires.some in
-    let is = c.head-of-at.ensures ∙ ap (λ z. cleaned (bucket_of m.digested (length heads) c.args.items.now m.blank) z c.args.count (get_or heads z 0)) c.bucket.ensures in
-    begins m.equal m.digested m.blank (sameness g) c.args.items.now c.args.count heads c.args.next.now c.requires c.args.x c.head-of-at.result is inside
+    let is = c.head_of-at.ensures ∙ ap (λ z. cleaned (bucket_of m.digested (length heads) c.args.items.now m.blank) z c.args.count (get_or heads z 0)) c.bucket.ensures in
+    begins m.equal m.digested m.blank (sameness g) c.args.items.now c.args.count heads c.args.next.now c.requires c.args.x c.head_of-at.result is inside
 
 -- what the test told of the thing at the place before `at`
 told : (g : given.Over) (c : After-same g) (v : Bool) → c.same.result ≡ v → g.X.Interned.equal (get_or c.args.items.now (c.loop-at.at - 1) g.X.Interned.blank) c.args.x ≡ v

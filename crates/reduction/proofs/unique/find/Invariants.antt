@@ -1,5 +1,4 @@
-use Rattle.std.proofs.Common.{◌≡◌, ℕ, ◌-◌, ◌%◌, ◌<◌, ◌≤◌, false, length, get_or}
-use Rattle.reduction.specs.Hashing.{bucket_of}
+use Rattle.std.proofs.Common.{length}
 use Rattle.reduction.proofs.Hashes.{Sought}
 use Rattle.reduction.proofs.unique.find.Given as goal
 

@@ -10,5 +10,5 @@ pub returns : goal.returns
 returns c =
     let nodes = c.args.nodes.now in
     let count = c.args.count in
-    let first = simp sub-zero at c.first-unlawful.ensures in
-    none_fails _ _ _ _ c.is-none.ensures first ∙ ap (all_below (node_is_lawful c.args.domain c.args.leaves (take count nodes))) (length-take-le count nodes c.requires)
+    let first = simp sub-zero at c.first_unlawful.ensures in
+    none_fails _ _ _ _ c.is_none.ensures first ∙ ap (all_below (node_is_lawful c.args.domain c.args.leaves (take count nodes))) (length-take-le count nodes c.requires)

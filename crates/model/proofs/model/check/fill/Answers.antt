@@ -3,9 +3,10 @@ use Rattle.model_file.specs.Reading.{five}
 use Rattle.model.specs.Checking.{model_tests}
 use Rattle.model.proofs.model.check.fill.Goals as goal
 
-pub invariant-of-model : goal.invariant-of-model
-invariant-of-model c = (
-  none_passes (model_tests c.args.conditions c.args.moves c.args.discount (five c.args.rewards.now c.args.chances.now c.args.reward_nodes.now c.args.chance_nodes.now c.args.roots.now))
-      c.in-ok-check-lists.ensures,
-  (c.requires, tt),
-)
+pub invariant_of-model : goal.invariant_of-model
+invariant_of-model c = record {
+  lawful =
+      none_passes (model_tests c.args.conditions c.args.moves c.args.discount (five c.args.rewards.now c.args.chances.now c.args.reward_nodes.now c.args.chance_nodes.now c.args.roots.now))
+      c.in_ok-check_lists.ensures;
+  rooted = c.requires;
+}

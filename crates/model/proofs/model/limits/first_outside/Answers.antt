@@ -6,4 +6,4 @@ pub loop-k-preserved : goal.loop-k-preserved
 loop-k-preserved g c =
     let m = g.L.Limited in
     let read = get_or_read c.args.list.now c.loop-k.k c.index-list-k.result c.loop-k-test.true c.index-list-k.is m.blank in
-    below_more _ _ c.loop-k.invariant (ap m.within (sym read) ∙ sym c.if-not-is-within.ensures)
+    below_more _ _ c.loop-k.invariant (ap m.within (sym read) ∙ sym c.if-not-is_within.ensures)

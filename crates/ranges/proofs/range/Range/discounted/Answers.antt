@@ -5,5 +5,5 @@ use Rattle.ranges.proofs.range.Range.discounted.Goals as goal
 
 pub outwards-requires : goal.outwards-requires
 outwards-requires c =
-    let o = multiples_ordered _ _ _ _ _ c.multiple-of-low.ensures.value c.multiple-of-high.ensures.value (omega (arith, ints)) in
+    let o = multiples_ordered _ _ _ _ _ c.multiple_of-low.ensures.value c.multiple_of-high.ensures.value (omega (arith, ints)) in
     omega (arith, ints)

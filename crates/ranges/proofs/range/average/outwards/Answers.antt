@@ -3,5 +3,5 @@ use Rattle.std.proofs.lemmas.Int.{ints}
 use Rattle.ranges.proofs.Multiples.{multiple_is}
 use Rattle.ranges.proofs.range.average.outwards.Goals as goal
 
-pub invariant-of-result : goal.invariant-of-result
-invariant-of-result c = omega (arith, ints, multiple_is 10000 c.floor-of.result, multiple_is 10000 c.ceiling-of.result)
+pub invariant_of-result : goal.invariant_of-result
+invariant_of-result c = omega (arith, ints, multiple_is 10000 c.floor_of.result, multiple_is 10000 c.ceiling_of.result)

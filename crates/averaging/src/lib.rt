@@ -1,2 +1,0 @@
-// The range that a move gives in each state: the conditions after it averaged out one by one.
-pub mod one;
