@@ -1,0 +1,4 @@
+pub mod Chances
+pub mod Fixing
+pub mod Laying
+pub mod Repeating
