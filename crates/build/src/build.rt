@@ -22,6 +22,17 @@ pub struct Index<'a> {
     pub node_next: &'a mut [u32],
 }
 
+// How far a table in two lists goes.
+fn extent_of<L>(leaves: &Listed<L>, nodes: &Listed<Node>, root: u32) -> Extent
+    ensures { result ≡ record { leaves = leaves.now.count; nodes = nodes.now.count; root = root } }
+{
+    Extent {
+        leaves: leaves.count,
+        nodes: nodes.count,
+        root,
+    }
+}
+
 // Fills the lists with the one reduced table of three diagrams combined, and says how far it goes; or says that it has more leaves or more nodes than the capacity.
 pub fn build<C: Combining>(
     combining: C,
@@ -71,9 +82,5 @@ pub fn build<C: Combining>(
         memo,
         roots,
     )?;
-    Ok(Extent {
-        leaves: leaf_list.count,
-        nodes: node_list.count,
-        root,
-    })
+    Ok(extent_of(&leaf_list, &node_list, root))
 }

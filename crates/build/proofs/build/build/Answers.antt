@@ -9,10 +9,11 @@ returns g c =
     let k = c.combine.new.nodes in
     let r = c.in_ok-root.root in
     record {
-      built = stands g.C.Out.Interned.equal _ _ l k r e.combined _ _ (search rules) (search rules) c.args.capacity e.leaves_stay.capacity e.nodes_stay.capacity;
+      built = rw c.extent_of.ensures (stands g.C.Out.Interned.equal _ _ l k r e.combined _ _ (search rules) (search rules) c.args.capacity e.leaves_stay.capacity e.nodes_stay.capacity);
       lawful =
-          lawful_extent g.C.Out.Interned.equal _ _ l k r e.combined _ _ refl (search rules) (record { means = g.met.C.Out.Interned.means; self = g.met.C.Out.Interned.reflexive })
-          (omega (arith, e.leaves_stay.capacity, c.requires.roomy.small));
+          rw c.extent_of.ensures
+          (lawful_extent g.C.Out.Interned.equal _ _ l k r e.combined _ _ refl (search rules) (record { means = g.met.C.Out.Interned.means; self = g.met.C.Out.Interned.reflexive })
+          (omega (arith, e.leaves_stay.capacity, c.requires.roomy.small)));
       ready = search rules;
       lent = search rules;
     }
