@@ -17,7 +17,7 @@ use Rattle.model.proofs.Lawful.{chance_table, chance_root_named, chance_root_wit
 use Rattle.reduction.specs.Canonical.{both}
 use Rattle.reduction.proofs.Levels.{states_both}
 use Rattle.sources.specs.declared.input.Input.{Input}
-use Rattle.sources.specs.Inputs.{value, Named, Readable}
+use Rattle.sources.specs.Inputs.{value, Named, Readable, Unfixed}
 use Rattle.sources.proofs.Readables.{readable_own}
 use Rattle.stages.specs.Parts.{over_states}
 use Rattle.stages.proofs.Tables.{reads_states}
@@ -29,33 +29,34 @@ list_limit n m b l lawful j less =
     leb-true _ _ (each_holds _ _ j less (passes_left (chances n m b l) (from_nodes n m b l) later))
 
 -- past the end of the list stands 0
-pub chance_limit : (x : Model) (a i s : ℕ) → chance_at x.conditions (lists_of x) a i s ≤ 10000
+pub chance_limit : (x : Model) (a i s : ℕ) → chance_at x.sizes.conditions (lists_of x) a i s ≤ 10000
 chance_limit x a i s =
-    let j = leaf_of x.conditions x.chance_nodes.now (get_or x.roots.now (chance_root x.conditions a i) 0) s in
-    ⊎_elim (list_limit x.conditions x.moves x.discount (lists_of x) x.lawful j) (λ past. omega (arith, get_or_past x.chances.now j 0 past)) (cases_lt j (length x.chances.now))
+    let j = leaf_of x.sizes.conditions x.lists.chance_nodes.now (get_or x.lists.roots.now (chance_root x.sizes.conditions a i) 0) s in
+    ⊎_elim (list_limit x.sizes.conditions x.sizes.moves x.sizes.discount (lists_of x) x.lawful j) (λ past. omega (arith, get_or_past x.lists.chances.now j 0 past)) (cases_lt j (length x.lists.chances.now))
 
-module _ (x : Model) (k : Input ℕ) (is : ReadsChances x k) where
-  lawful : Lawful (states x.conditions) (length k.leaves.now) k.nodes.now
+module _ (x : Model) (r : ℕ) (k : Input ℕ) (is : ReadsChances x r k) where
+  lawful : Lawful (states x.sizes.conditions) (length k.table.leaves.now) k.table.nodes.now
   lawful =
-      let given : Lawful (states x.conditions) (length x.chances.now) x.chance_nodes.now = chance_table x.conditions x.moves x.discount (lists_of x) x.lawful in
-      subst (λ ls. Lawful (states x.conditions) (length ls) k.nodes.now) (sym is.leaves) (subst (Lawful (states x.conditions) (length x.chances.now)) (sym is.nodes) given)
+      let given : Lawful (states x.sizes.conditions) (length x.lists.chances.now) x.lists.chance_nodes.now = chance_table x.sizes.conditions x.sizes.moves x.sizes.discount (lists_of x) x.lawful in
+      subst (λ ls. Lawful (states x.sizes.conditions) (length ls) k.table.nodes.now) (sym is.leaves) (subst (Lawful (states x.sizes.conditions) (length x.lists.chances.now)) (sym is.nodes) given)
 
-  pub chances_readable : Readable k (x.conditions + x.conditions)
-  chances_readable = readable_own k (both x.conditions) is.offset (states_both x.conditions (length k.leaves.now) k.nodes.now lawful)
+  pub chances_readable : Readable k (x.sizes.conditions + x.sizes.conditions)
+  chances_readable = readable_own k (both x.sizes.conditions) is.offset (states_both x.sizes.conditions (length k.table.leaves.now) k.table.nodes.now lawful)
 
-  pub chances_limited : (j : ℕ) → j < length k.leaves.now → get_or k.leaves.now j 0 ≤ 10000
-  chances_limited = subst (λ ls. (j : ℕ) → j < length ls → get_or ls j 0 ≤ 10000) (sym is.leaves) (list_limit x.conditions x.moves x.discount (lists_of x) x.lawful)
+  pub chances_limited : (j : ℕ) → j < length k.table.leaves.now → get_or k.table.leaves.now j 0 ≤ 10000
+  chances_limited = subst (λ ls. (j : ℕ) → j < length ls → get_or ls j 0 ≤ 10000) (sym is.leaves) (list_limit x.sizes.conditions x.sizes.moves x.sizes.discount (lists_of x) x.lawful)
 
-  pub root_named : (a i : ℕ) → a < x.moves → i < x.conditions → Named k (get_or x.roots.now (chance_root x.conditions a i) 0)
-  root_named a i move condition =
-      let r = get_or x.roots.now (chance_root x.conditions a i) 0 in
-      let given : names (length x.chances.now) (length x.chance_nodes.now) r ≡ true =
-      chance_root_named x.conditions x.moves x.discount (lists_of x) x.lawful (chance_root x.conditions a i) (omega arith) (chance_root_within x.conditions x.moves a i (length x.roots.now) x.rooted move condition) in
-      subst (λ ls. names (length ls) (length k.nodes.now) r ≡ true) (sym is.leaves) (subst (λ ns. names (length x.chances.now) (length ns) r ≡ true) (sym is.nodes) given)
+  pub root_named : (a i : ℕ) → r ≡ get_or x.lists.roots.now (chance_root x.sizes.conditions a i) 0 → a < x.sizes.moves → i < x.sizes.conditions → Named k k.table.root
+  root_named a i at move condition =
+      let given : names (length x.lists.chances.now) (length x.lists.chance_nodes.now) (get_or x.lists.roots.now (chance_root x.sizes.conditions a i) 0) ≡ true =
+      chance_root_named x.sizes.conditions x.sizes.moves x.sizes.discount (lists_of x) x.lawful (chance_root x.sizes.conditions a i) (omega arith) (chance_root_within x.sizes.conditions x.sizes.moves a i (length x.lists.roots.now) x.rooted move condition) in
+      subst (λ ls. names (length ls) (length k.table.nodes.now) k.table.root ≡ true) (sym is.leaves)
+      (subst (λ ns. names (length x.lists.chances.now) (length ns) k.table.root ≡ true) (sym is.nodes) (subst (λ z. names (length x.lists.chances.now) (length x.lists.chance_nodes.now) z ≡ true) (sym (is.root ∙ at)) given))
 
-  pub chances_read : (r : ℕ) → Named k r → (bs : List Bool) → length bs ≡ x.conditions + x.conditions →
-      value 0 k 0 bs r ≡ over_states x.conditions (λ s. get_or x.chances.now (leaf_of x.conditions x.chance_nodes.now r s) 0) bs
-  chances_read r named bs long =
-      reads_states 0 x.conditions k r lawful named is.free bs long is.offset
-      ∙ ap (λ ls. over_states x.conditions (λ s. get_or ls (leaf_of x.conditions k.nodes.now r s) 0) bs) is.leaves
-      ∙ ap (λ ns. over_states x.conditions (λ s. get_or x.chances.now (leaf_of x.conditions ns r s) 0) bs) is.nodes
+  pub chances_read : Named k k.table.root → (bs : List Bool) → length bs ≡ x.sizes.conditions + x.sizes.conditions →
+      value 0 k 0 bs k.table.root ≡ over_states x.sizes.conditions (λ s. get_or x.lists.chances.now (leaf_of x.sizes.conditions x.lists.chance_nodes.now r s) 0) bs
+  chances_read named bs long =
+      reads_states 0 x.sizes.conditions k k.table.root lawful named (subst (λ f. Unfixed f (x.sizes.conditions + x.sizes.conditions)) (sym is.free) tt) bs long is.offset
+      ∙ ap (λ ls. over_states x.sizes.conditions (λ s. get_or ls (leaf_of x.sizes.conditions k.table.nodes.now k.table.root s) 0) bs) is.leaves
+      ∙ ap (λ ns. over_states x.sizes.conditions (λ s. get_or x.lists.chances.now (leaf_of x.sizes.conditions ns k.table.root s) 0) bs) is.nodes
+      ∙ ap (λ z. over_states x.sizes.conditions (λ s. get_or x.lists.chances.now (leaf_of x.sizes.conditions x.lists.chance_nodes.now z s) 0) bs) is.root

@@ -36,24 +36,24 @@ within_all leaves within j =
     (λ past. subst (Within (2 ^ 41)) (sym (get_or_past leaves j none past)) (record { ordered = search rules; inside = (search rules, search rules) }))
     (cases_lt j (length leaves))
 
-module _ (x : Model) (a i : ℕ) (leaves : List Ends) (nodes : List Node) (r : ℕ) (can : Averageable x.conditions leaves nodes r) where
+module _ (x : Model) (a i : ℕ) (leaves : List Ends) (nodes : List Node) (r : ℕ) (can : Averageable x.sizes.conditions leaves nodes r) where
   abbrev wanted : List Bool → Ends
-  wanted = averaging (plan_of x) a i (reading x.conditions leaves nodes r)
+  wanted = averaging (plan_of x) a i (reading x.sizes.conditions leaves nodes r)
 
   wanted_within : (bs : List Bool) → Within (2 ^ 41) (wanted bs)
   wanted_within bs =
-      let one = within_all leaves can.within (reach x.conditions nodes 0 (set bs i true) r) in
-      let zero = within_all leaves can.within (reach x.conditions nodes 0 (set bs i false) r) in
+      let one = within_all leaves can.within (reach x.sizes.conditions nodes 0 (set bs i true) r) in
+      let zero = within_all leaves can.within (reach x.sizes.conditions nodes 0 (set bs i false) r) in
       let k = average_kept (2 ^ 41) _ _ _ (chance_limit x a i _) (record { ordered = one.ordered; inside = one.inside }) (record { ordered = zero.ordered; inside = zero.inside }) in
       record { ordered = k.ordered; inside = k.inside }
 
-  pub again : (capacity : ℕ) → capacity ≤ 65535 → (leaves' : List Ends) (nodes' : List Node) (e : Result Extent TooLarge) → Built same_ends x.conditions wanted capacity leaves' nodes' e →
-      IfOk e (λ y. Averageable x.conditions (take y.leaves leaves') (take y.nodes nodes') y.root)
+  pub again : (capacity : ℕ) → capacity ≤ 65535 → (leaves' : List Ends) (nodes' : List Node) (e : Result Extent TooLarge) → Built same_ends x.sizes.conditions wanted capacity leaves' nodes' e →
+      IfOk e (λ y. Averageable x.sizes.conditions (take y.leaves leaves') (take y.nodes nodes') y.root)
   again capacity small leaves' nodes' (Err e) over = tt
   again capacity small leaves' nodes' (Ok y) stands =
       let long = length-take y.leaves leaves' in
       let few = stands.leaves_fit in
       let short : length (take y.leaves leaves') ≤ 65536 = omega arith in
-      let back = subst (ReadsBack same_ends x.conditions wanted) stands.is (read_back same_ends sameness x.conditions wanted (subst (λ m. length m.leaves ≤ 65536) (sym stands.is) short)) in
-      let all = subst (λ (m : Made Ends). AllIn (Within (2 ^ 41)) m.leaves) stands.is (reduced_all same_ends sameness x.conditions (Within (2 ^ 41)) wanted (λ bs _. wanted_within bs)) in
+      let back = subst (ReadsBack same_ends x.sizes.conditions wanted) stands.is (read_back same_ends sameness x.sizes.conditions wanted (subst (λ m. length m.leaves ≤ 65536) (sym stands.is) short)) in
+      let all = subst (λ (m : Made Ends). AllIn (Within (2 ^ 41)) m.leaves) stands.is (reduced_all same_ends sameness x.sizes.conditions (Within (2 ^ 41)) wanted (λ bs _. wanted_within bs)) in
       record { lawful = back.lawful; rooted = back.named; within = λ j less. all j none less }

@@ -3,4 +3,3 @@
 
 mod inputs;
 pub mod one;
-pub mod table;

@@ -4,7 +4,7 @@ use Rattle.std.proofs.lemmas.Bool.{cases_eq}
 use Rattle.diagram.specs.declared.nodes.Node.{Node}
 use Rattle.reduction.specs.Listed.{Same}
 use Rattle.reduction.proofs.Interning.{Grown}
-use Rattle.sources.specs.declared.memo.Entry.{Entry}
+use Rattle.sources.specs.declared.entry.Entry.{Entry}
 use Rattle.sources.specs.declared.spot.Spot.{Spot}
 use Rattle.sources.specs.declared.three.Sources.{Sources}
 use Rattle.sources.specs.Memos.{none, slot, kept, entry_at, recalled, Unused}

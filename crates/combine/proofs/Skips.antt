@@ -9,24 +9,21 @@ use Rattle.reduction.proofs.Once.{walk_agree}
 use Rattle.reduction.proofs.Walked.{link_adds, walk_adds}
 use Rattle.sources.specs.declared.spot.Spot.{Spot}
 use Rattle.sources.specs.declared.three.Sources.{Sources}
-use Rattle.sources.specs.Spots.{top, down, values}
-use Rattle.sources.proofs.Descents.{values_step, down_quiet}
+use Rattle.sources.specs.Spots.{top, down}
+use Rattle.sources.proofs.Descents.{Descends, down_quiet}
 use Rattle.combine.specs.Tables.{Over, Sound}
 use Rattle.combine.proofs.Walks.{over_more, walk_again}
 
-module _ {A B C X : Type 0} (eq : X → X → Bool) (same : Same eq) (S : Sources A B C) (give : A → B → C → X) (a : A) (b : B) (c : C) where
+module _ {A B C X : Type 0} {eq : X → X → Bool} {S : Sources A B C} {f : ℕ → Spot → List Bool → X} (same : Same eq) (descends : Descends S f) where
   abbrev n : ℕ
   n = S.conditions
 
-  abbrev f : ℕ → Spot → List Bool → X
-  f = values give a b c S
-
   -- one half of the function is the function of where the references lead
   halves : (L k : ℕ) (x : Bool) (at : Spot) → Agree L (λ bs. f k at (x ∷ bs)) (f (suc k) (down S k x at))
-  halves L k x at bs long = values_step S give a b c k x at bs
+  halves L k x at bs long = descends.step k x at bs
 
   quiet_halves : (L k : ℕ) (x : Bool) (at : Spot) → k < top S at → Agree L (λ bs. f k at (x ∷ bs)) (f (suc k) at)
-  quiet_halves L k x at less bs long = values_step S give a b c k x at bs ∙ ap (λ z. f (suc k) z bs) (down_quiet S k x at less)
+  quiet_halves L k x at less bs long = descends.step k x at bs ∙ ap (λ z. f (suc k) z bs) (down_quiet S k x at less)
 
   -- the walk at a level that is tested
   pub walk_node : (L k : ℕ) (at : Spot) (ls : List X) (ns : List Node) →

@@ -1,5 +1,5 @@
 -- Walks over sound lists: the lists stay sound, a function walked again adds nothing, and what is known stays known as the lists grow.
-use Rattle.std.proofs.Common.{◌≡◌, ℕ, ◌+◌, ◌≤◌, Bool, List, [], length, sym, subst, inl, inr, ⊎_elim, arith}
+use Rattle.std.proofs.Common.{◌≡◌, ℕ, ◌+◌, ◌≤◌, Bool, List, length, sym, subst, inl, inr, ⊎_elim, arith}
 use Rattle.diagram.specs.declared.nodes.Node.{Node}
 use Rattle.reduction.specs.Listed.{Same}
 use Rattle.reduction.specs.Walk.{Made, walk}
@@ -42,6 +42,3 @@ module _ {X : Type 0} (eq : X → X → Bool) (same : Same eq) (n : ℕ) where
         above = kept_above eq same n L k f (made r ls ns) (made r ls' ns') ends st (g, h);
         reads = kept_reads eq same n L k f (made r ls ns) (made r ls' ns') ends st (g, h);
       })
-
-  pub empty_sound : Sound eq n [] []
-  empty_sound = record { lawful = λ j l. absurd (omega arith); leaves_once = λ i j d l m. absurd (omega arith); nodes_once = λ i j d l m. absurd (omega arith); parted = λ j l e. absurd (omega arith) }

@@ -3,7 +3,7 @@
 --     Remembers eq S f es stamp ls ns     every entry that was made under the stamp is known
 use Rattle.std.specs.Prelude.{◌≡◌, ℕ, ◌<◌, ◌≤◌, Bool, List, length}
 use Rattle.diagram.specs.declared.nodes.Node.{Node}
-use Rattle.sources.specs.declared.memo.Entry.{Entry}
+use Rattle.sources.specs.declared.entry.Entry.{Entry}
 use Rattle.sources.specs.declared.spot.Spot.{Spot}
 use Rattle.sources.specs.declared.three.Sources.{Sources}
 use Rattle.sources.specs.Memos.{entry_at}

@@ -1,9 +1,9 @@
 // A reward as a range: from itself to itself.
 ghost use Rattle.ranges.specs.Ranges.{ends};
 
-use combine::combining::Combining;
 use ranges::ends::Ends;
 use reduction::interned::Nothing;
+use sources::combining::Combining;
 
 #[derive(Clone, Copy)]
 pub struct AsRange;
@@ -16,8 +16,6 @@ impl Combining for AsRange {
     type Third = Nothing;
 
     type Out = Ends;
-
-    ghost can = { λ _ _ _ _. Unit {0} };
 
     ghost meaning = { λ _ reward _ _. ends reward reward };
 

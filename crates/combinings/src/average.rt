@@ -2,9 +2,9 @@
 ghost use Rattle.ranges.specs.Ranges.{average};
 ghost use Rattle.combinings.specs.Asked.{Averaging};
 
-use combine::combining::Combining;
 use ranges::ends::Ends;
 use ranges::range::Range;
+use sources::combining::Combining;
 
 #[derive(Clone, Copy)]
 pub struct Average;

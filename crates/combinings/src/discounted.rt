@@ -2,10 +2,10 @@
 ghost use Rattle.ranges.specs.Ranges.{discounted};
 ghost use Rattle.combinings.specs.Asked.{Discounting};
 
-use combine::combining::Combining;
 use ranges::ends::Advice;
 use ranges::range::Range;
 use reduction::interned::Nothing;
+use sources::combining::Combining;
 
 #[derive(Clone, Copy)]
 pub struct Discounted {

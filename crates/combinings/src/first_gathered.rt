@@ -1,7 +1,7 @@
 // The range of the first move, held as the best so far.
-use combine::combining::Combining;
 use ranges::ends::{Advice, Ends};
 use reduction::interned::Nothing;
+use sources::combining::Combining;
 
 #[derive(Clone, Copy)]
 pub struct FirstGathered;
@@ -14,8 +14,6 @@ impl Combining for FirstGathered {
     type Third = Nothing;
 
     type Out = Advice;
-
-    ghost can = { λ _ _ _ _. Unit {0} };
 
     ghost meaning = { λ _ e _ _. record { chosen = 0; ends = e } };
 

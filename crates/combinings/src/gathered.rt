@@ -1,9 +1,9 @@
 // What is held, shown one more move: the greater low end with its move, the held one at equal lows, and the greater high end.
 ghost use Rattle.planning.specs.Passes.{gather};
 
-use combine::combining::Combining;
 use ranges::ends::{Advice, Ends};
 use reduction::interned::Nothing;
+use sources::combining::Combining;
 
 #[derive(Clone, Copy)]
 pub struct Gathered {
@@ -18,8 +18,6 @@ impl Combining for Gathered {
     type Third = Nothing;
 
     type Out = Advice;
-
-    ghost can = { λ _ _ _ _. Unit {0} };
 
     ghost meaning = { λ self held shown _. gather held self.chosen shown };
 

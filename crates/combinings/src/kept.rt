@@ -1,7 +1,7 @@
 // A range as it is.
-use combine::combining::Combining;
 use ranges::ends::Ends;
 use reduction::interned::Nothing;
+use sources::combining::Combining;
 
 #[derive(Clone, Copy)]
 pub struct Kept;
@@ -14,8 +14,6 @@ impl Combining for Kept {
     type Third = Nothing;
 
     type Out = Ends;
-
-    ghost can = { λ _ _ _ _. Unit {0} };
 
     ghost meaning = { λ _ e _ _. e };
 

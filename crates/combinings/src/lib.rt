@@ -16,9 +16,9 @@ mod tests {
     use crate::discounted::Discounted;
     use crate::gathered::Gathered;
     use crate::rewarded::Rewarded;
-    use combine::combining::Combining;
     use ranges::ends::{Advice, Ends};
     use reduction::interned::Nothing;
+    use sources::combining::Combining;
 
     fn parts(advice: Advice) -> (u8, i64, i64) {
         (advice.chosen, advice.ends.low, advice.ends.high)

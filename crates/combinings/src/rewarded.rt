@@ -2,10 +2,10 @@
 ghost use Rattle.ranges.specs.Ranges.{plus};
 ghost use Rattle.combinings.specs.Asked.{Rewarding};
 
-use combine::combining::Combining;
 use ranges::ends::Advice;
 use ranges::range::Range;
 use reduction::interned::Nothing;
+use sources::combining::Combining;
 
 #[derive(Clone, Copy)]
 pub struct Rewarded;

@@ -1,7 +1,7 @@
 // The range of advice, its move dropped.
-use combine::combining::Combining;
 use ranges::ends::{Advice, Ends};
 use reduction::interned::Nothing;
+use sources::combining::Combining;
 
 #[derive(Clone, Copy)]
 pub struct Unmoved;
@@ -14,8 +14,6 @@ impl Combining for Unmoved {
     type Third = Nothing;
 
     type Out = Ends;
-
-    ghost can = { λ _ _ _ _. Unit {0} };
 
     ghost meaning = { λ _ held _ _. held.ends };
 

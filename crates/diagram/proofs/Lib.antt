@@ -1,3 +1,4 @@
 pub mod Bits
 pub mod Steps
 pub mod Numbers
+pub mod Firsts

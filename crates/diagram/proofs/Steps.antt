@@ -6,7 +6,7 @@ use Rattle.std.proofs.lemmas.Bool.{false≢true, and_parts, and_from, cases_lt, 
 use Rattle.diagram.specs.declared.conditions.Condition.{Condition}
 use Rattle.diagram.specs.declared.conditions.Condition.TheVariants.{Before, After}
 use Rattle.diagram.specs.declared.nodes.Node.{Node}
-use Rattle.diagram.specs.Lawful.{named, names, later, branch_is_lawful, Lawful}
+use Rattle.diagram.specs.Lawful.{node_at, named, names, later, branch_is_lawful, Lawful}
 use Rattle.diagram.specs.Order.{level, exists, states}
 use Rattle.diagram.specs.Reads.{branch, tests, descend, reach, leaf_of, value_in}
 use Rattle.diagram.specs.States.{bit, bits_from}
@@ -99,3 +99,10 @@ follow n leaves nodes s r lawful counted node =
     let parts = and_parts _ _ (lawful (r - 65536) within) in
     let both = and_parts _ _ parts.1 in
     follow_case n leaves nodes s r (named nodes r).condition refl parts.0 node within (λ v. elim v as (λ w. branch_is_lawful (states n) leaves nodes (r - 65536) (branch w (named nodes r)) ≡ true) [ true ↦ both.0 | false ↦ both.1 ])
+
+-- the same from node j, which the reference r names
+pub follow_at : (n leaves : ℕ) (nodes : List Node) (s r j next : ℕ) → Lawful (states n) leaves nodes → names leaves (length nodes) r ≡ true → r ≡ 65536 + j →
+    next ≡ branch (value_in s (node_at nodes j).condition) (node_at nodes j) → Follows n leaves nodes s r next
+follow_at n leaves nodes s r j next lawful named at is =
+    let gap : r - 65536 ≡ j = omega arith in
+    subst (Follows n leaves nodes s r) (ap (λ i. branch (value_in s (node_at nodes i).condition) (node_at nodes i)) gap ∙ sym is) (follow n leaves nodes s r lawful named (omega arith))

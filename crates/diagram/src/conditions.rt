@@ -2,13 +2,13 @@
 ghost use Rattle.std.specs.Prelude.{◌≡◌};
 ghost use Rattle.diagram.specs.Order.{number};
 
-#[derive(Clone, Copy)]
+#[derive(Clone, Copy, PartialEq, Eq, Debug)]
 pub struct Before(pub u8);
 
-#[derive(Clone, Copy)]
+#[derive(Clone, Copy, PartialEq, Eq, Debug)]
 pub struct After(pub u8);
 
-#[derive(Clone, Copy)]
+#[derive(Clone, Copy, PartialEq, Eq, Debug)]
 pub enum Condition {
     Before(Before),
     After(After),
@@ -27,7 +27,8 @@ impl Condition {
 }
 
 // What a table may test: conditions below `conditions`, the after-conditions only where `after` says so.
-#[derive(Clone, Copy)]
+// Two variants would be no plainer: the number counts in both, and each test asks for one of the two fields.
+#[derive(Clone, Copy, PartialEq, Eq, Debug)]
 pub struct Domain {
     pub conditions: u8,
     pub after: bool,

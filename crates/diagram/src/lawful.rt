@@ -5,7 +5,8 @@ ghost use Rattle.diagram.specs.Lawful.{names, later, branch_is_lawful, node_is_l
 ghost use Rattle.diagram.specs.First.{FirstFailing};
 
 use crate::conditions::{Condition, Domain};
-use crate::nodes::{FIRST_NODE, Node};
+use crate::nodes::{Node, Reference};
+use std::ops::Range;
 
 // Where a condition stands in the order.
 pub fn level_of(conditions: u8, condition: Condition) -> u16
@@ -30,52 +31,63 @@ fn has_condition(domain: Domain, condition: Condition) -> bool
 pub fn names_something(leaves: usize, nodes: usize, reference: u32) -> bool
     ensures { result ≡ names leaves nodes reference }
 {
-    if reference < FIRST_NODE {
-        (reference as usize) < leaves
-    } else {
-        ((reference - FIRST_NODE) as usize) < nodes
+    match Reference::from(reference) {
+        Reference::Leaf(leaf) => leaf < leaves,
+        Reference::Node(j) => j < nodes,
     }
 }
 
-// Whether the condition of a reference's node, if it is one, stands later than another.
-fn stands_later(conditions: u8, nodes: &[Node], condition: Condition, reference: u32) -> bool
-    requires { names 65536 (length nodes.now) reference ≡ true }
-    ensures { result ≡ later conditions nodes.now condition reference }
-{
-    if reference < FIRST_NODE {
-        true
-    } else {
-        let node = nodes[(reference - FIRST_NODE) as usize];
-        level_of(conditions, condition) < level_of(conditions, node.condition)
-    }
+// A list of nodes above so many leaves, and the conditions that it may test.
+#[derive(Clone, Copy)]
+pub struct NodeList<'a> {
+    pub domain: Domain,
+    pub leaves: usize,
+    pub nodes: &'a [Node],
 }
 
-fn is_lawful_branch(domain: Domain, leaves: usize, nodes: &[Node], j: usize, reference: u32) -> bool
-    requires { j < length nodes.now }
-    ensures { result ≡ branch_is_lawful domain leaves nodes.now j reference }
-{
-    names_something(leaves, j, reference)
-        && stands_later(domain.conditions, nodes, nodes[j].condition, reference)
-}
-
-fn is_lawful_node(domain: Domain, leaves: usize, nodes: &[Node], j: usize) -> bool
-    requires { j < length nodes.now }
-    ensures { result ≡ node_is_lawful domain leaves nodes.now j }
-{
-    let node = nodes[j];
-    has_condition(domain, node.condition)
-        && is_lawful_branch(domain, leaves, nodes, j, node.one)
-        && is_lawful_branch(domain, leaves, nodes, j, node.zero)
-}
-
-// The first unlawful node, if there is one.
-pub fn first_unlawful(domain: Domain, leaves: usize, nodes: &[Node]) -> Option<usize>
-    ensures { FirstFailing (node_is_lawful domain leaves nodes.now) (length nodes.now) result }
-{
-    for j in 0..nodes.len() {
-        if !is_lawful_node(domain, leaves, nodes, j) {
-            return Some(j);
+impl NodeList<'_> {
+    // Whether the condition of a reference's node, if it is one, stands later than another.
+    fn stands_later(self, condition: Condition, reference: u32) -> bool
+        requires { names 65536 (length self.nodes.now) reference ≡ true }
+        ensures { result ≡ later self.entry.domain.conditions self.entry.nodes.now condition reference }
+    {
+        let n = self.domain.conditions;
+        match Reference::from(reference) {
+            Reference::Leaf(_) => true,
+            Reference::Node(j) => level_of(n, condition) < level_of(n, self.nodes[j].condition),
         }
     }
-    None
+
+    fn is_lawful_branch(self, j: usize, reference: u32) -> bool
+        requires { j < length self.nodes.now }
+        ensures { result ≡ branch_is_lawful self.entry.domain self.entry.leaves self.entry.nodes.now j reference }
+    {
+        names_something(self.leaves, j, reference)
+            && self.stands_later(self.nodes[j].condition, reference)
+    }
+
+    fn is_lawful_node(self, j: usize) -> bool
+        requires { j < length self.nodes.now }
+        ensures { result ≡ node_is_lawful self.entry.domain self.entry.leaves self.entry.nodes.now j }
+    {
+        let node = self.nodes[j];
+        has_condition(self.domain, node.condition)
+            && self.is_lawful_branch(j, node.one)
+            && self.is_lawful_branch(j, node.zero)
+    }
+
+    // All nodes, by number.
+    fn numbers(self) -> Range<usize>
+        ensures start { result.start ≡ 0 }
+        ensures end { result.end ≡ length self.entry.nodes.now }
+    {
+        0..self.nodes.len()
+    }
+
+    // The first unlawful node, if there is one.
+    pub fn first_unlawful(self) -> Option<usize>
+        ensures { FirstFailing (node_is_lawful self.entry.domain self.entry.leaves self.entry.nodes.now) (length self.entry.nodes.now) result }
+    {
+        self.numbers().find(|j| !self.is_lawful_node(*j))
+    }
 }

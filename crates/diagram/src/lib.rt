@@ -6,3 +6,4 @@ pub mod lawful;
 pub mod look;
 pub mod nodes;
 pub mod states;
+pub mod table;

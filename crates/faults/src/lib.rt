@@ -5,10 +5,11 @@ ghost use Rattle.std.specs.Prelude.{◌≡◌, Some};
 ghost use Rattle.faults.specs.Figures.{reported, line};
 ghost use Rattle.faults.specs.declared.Fault.TheVariants.{File, Model, Call};
 
+use std::error::Error;
 use std::fmt;
 
-// A fault of whoever wrote the file. A place is the number of the field's first byte.
-#[derive(Clone, Copy, PartialEq, Debug)]
+// A fault of whoever wrote the file. A place is the number of the field's first byte. A tag is a byte, since it may be none that there is.
+#[derive(Clone, Copy, PartialEq, Eq, Debug)]
 pub enum FileFault {
     CutShort { tag: u8, place: usize },
     UnknownTag { tag: u8, place: usize },
@@ -19,7 +20,7 @@ pub enum FileFault {
 }
 
 // A fault of whoever made the model. An entry is numbered in the list of its tag.
-#[derive(Clone, Copy, PartialEq, Debug)]
+#[derive(Clone, Copy, PartialEq, Eq, Debug)]
 pub enum ModelFault {
     OutsideLimits { tag: u8, entry: usize },
     UnlawfulNode { tag: u8, entry: usize },
@@ -27,20 +28,20 @@ pub enum ModelFault {
 }
 
 // A fault of whoever calls.
-#[derive(Clone, Copy, PartialEq, Debug)]
+#[derive(Clone, Copy, PartialEq, Eq, Debug)]
 pub enum CallFault {
     OutOfRange,
 }
 
-#[derive(Clone, Copy, PartialEq, Debug)]
+#[derive(Clone, Copy, PartialEq, Eq, Debug)]
 pub enum Fault {
     File(FileFault),
     Model(ModelFault),
     Call(CallFault),
 }
 
-// The four figures of a report.
-#[derive(Clone, Copy)]
+// The four figures of a report, numbers all, as it prints them.
+#[derive(Clone, Copy, PartialEq, Eq, Debug)]
 pub struct Figures {
     pub layer: u8,
     pub number: u8,
@@ -48,14 +49,52 @@ pub struct Figures {
     pub place: usize,
 }
 
-impl Fault {
-    pub fn figures(self) -> Figures
-        ensures { result ≡ reported self }
+impl FileFault {
+    fn figures(self) -> Figures
+        ensures { result ≡ reported (File self) }
+    {
+        let (number, tag, place) = match self {
+            FileFault::CutShort { tag, place } => (1, tag, place),
+            FileFault::UnknownTag { tag, place } => (2, tag, place),
+            FileFault::OutOfTurn { tag, place } => (3, tag, place),
+            // 6 is the roots' tag, by its number, as a report has it.
+            FileFault::NoRoots { length } => (4, 6, length),
+            FileFault::BadLength { tag, place } => (5, tag, place),
+            FileFault::ListTooShort => (9, 0, 0),
+        };
+        Figures {
+            layer: 1,
+            number,
+            tag,
+            place,
+        }
+    }
+}
+
+impl ModelFault {
+    fn figures(self) -> Figures
+        ensures { result ≡ reported (Model self) }
+    {
+        let (number, tag, place) = match self {
+            ModelFault::OutsideLimits { tag, entry } => (6, tag, entry),
+            ModelFault::UnlawfulNode { tag, entry } => (7, tag, entry),
+            ModelFault::RootNamesNothing { entry } => (8, 6, entry),
+        };
+        Figures {
+            layer: 2,
+            number,
+            tag,
+            place,
+        }
+    }
+}
+
+impl CallFault {
+    fn figures(self) -> Figures
+        ensures { result ≡ reported (Call self) }
     {
         match self {
-            Fault::File(fault) => file_figures(fault),
-            Fault::Model(fault) => model_figures(fault),
-            Fault::Call(CallFault::OutOfRange) => Figures {
+            CallFault::OutOfRange => Figures {
                 layer: 3,
                 number: 13,
                 tag: 0,
@@ -65,71 +104,15 @@ impl Fault {
     }
 }
 
-fn file_figures(fault: FileFault) -> Figures
-    ensures { result ≡ reported (File fault) }
-{
-    match fault {
-        FileFault::CutShort { tag, place } => Figures {
-            layer: 1,
-            number: 1,
-            tag,
-            place,
-        },
-        FileFault::UnknownTag { tag, place } => Figures {
-            layer: 1,
-            number: 2,
-            tag,
-            place,
-        },
-        FileFault::OutOfTurn { tag, place } => Figures {
-            layer: 1,
-            number: 3,
-            tag,
-            place,
-        },
-        FileFault::NoRoots { length } => Figures {
-            layer: 1,
-            number: 4,
-            tag: 6,
-            place: length,
-        },
-        FileFault::BadLength { tag, place } => Figures {
-            layer: 1,
-            number: 5,
-            tag,
-            place,
-        },
-        FileFault::ListTooShort => Figures {
-            layer: 1,
-            number: 9,
-            tag: 0,
-            place: 0,
-        },
-    }
-}
-
-fn model_figures(fault: ModelFault) -> Figures
-    ensures { result ≡ reported (Model fault) }
-{
-    match fault {
-        ModelFault::OutsideLimits { tag, entry } => Figures {
-            layer: 2,
-            number: 6,
-            tag,
-            place: entry,
-        },
-        ModelFault::UnlawfulNode { tag, entry } => Figures {
-            layer: 2,
-            number: 7,
-            tag,
-            place: entry,
-        },
-        ModelFault::RootNamesNothing { entry } => Figures {
-            layer: 2,
-            number: 8,
-            tag: 6,
-            place: entry,
-        },
+impl Fault {
+    pub fn figures(self) -> Figures
+        ensures { result ≡ reported self }
+    {
+        match self {
+            Fault::File(fault) => fault.figures(),
+            Fault::Model(fault) => fault.figures(),
+            Fault::Call(fault) => fault.figures(),
+        }
     }
 }
 
@@ -170,3 +153,5 @@ impl fmt::Display for Fault {
         write!(f, "refused {layer} {number} {tag} {place}")
     }
 }
+
+impl Error for Fault {}

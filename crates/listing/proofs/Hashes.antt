@@ -1,13 +1,12 @@
 -- A search along the links of a bucket: what it passes by is not what it looks for.
-use Rattle.std.proofs.Common.{◌≡◌, ℕ, zero, suc, ◌-◌, ◌%◌, ◌<◌, ◌≤◌, Bool, true, false, eqb, List, [], ◌∷◌, length, get_or, sym, refl, ap, ◌∙◌, subst, ⊎_elim, arith}
+use Rattle.std.proofs.Common.{◌≡◌, ℕ, zero, suc, ◌-◌, ◌%◌, ◌<◌, ◌≤◌, Bool, true, false, eqb, List, [], ◌∷◌, length, take, get_or, sym, refl, ap, ◌∙◌, subst, ⊎_elim, arith}
 use Rattle.std.proofs.lemmas.Nat.{mod_below}
-use Rattle.std.proofs.lemmas.List.{get_or-take}
+use Rattle.std.proofs.lemmas.List.{get_or-take, get_or_default, get_or_read, length-take-le}
 use Rattle.std.proofs.lemmas.Bool.{cond_both, cond-false, cases_lt, cases_Bool, eqb-true, eqb-false}
 use Rattle.reduction.proofs.Interning.{index_unique}
-use Rattle.listing.specs.declared.listed.Listed.{Listed}
+use Rattle.reduction.specs.Canonical.{Distinct}
 use Rattle.reduction.specs.Listed.{Same, index}
-use Rattle.listing.specs.Hashing.{counted, bucket_of, last, head_in, Right}
-use Rattle.listing.proofs.Counted.{counted_length, counted_apart}
+use Rattle.listing.specs.Hashing.{bucket_of, last, cleaned, Indexed}
 
 last_le : (of : ℕ → ℕ) (b c : ℕ) → last of b c ≤ c
 last_le of b zero = omega arith
@@ -25,63 +24,81 @@ last_is of b zero h = absurd (omega arith)
 last_is of b (suc c) h =
     cond_both (eqb (of c) b) (suc c) (last of b c) (λ z. 0 < z → of (z - 1) ≡ b) (λ hit _. ap of {x = suc c - 1} {y = c} (omega arith) ∙ eqb-true (of c) b hit) (λ _ more. last_is of b c more) h
 
-module _ {X : Type 0} (eq : X → X → Bool) (digest : X → ℕ) (blank : X) where
-  abbrev of : Listed X → ℕ → ℕ
-  of l = bucket_of digest (length l.heads.now) l.items.now blank
+module _ {X : Type 0} (eq : X → X → Bool) (digest : X → ℕ) (blank : X) (xs : List X) (count : ℕ) (heads next : List ℕ) (x : X) where
+  abbrev of : ℕ → ℕ
+  of = bucket_of digest (length heads) xs blank
 
-  abbrev home : Listed X → X → ℕ
-  home l x = digest x % length l.heads.now
+  abbrev home : ℕ
+  home = digest x % length heads
+
+  abbrev thing : ℕ → X
+  thing i = get_or xs i blank
 
   -- x stands at no counted place from `at` on, and the search goes on in its bucket
-  pub record Sought (l : Listed X) (x : X) (at : ℕ) : Type 0 where
-    pub within : at ≤ l.count
-    pub bucketed : 0 < at → of l (at - 1) ≡ home l x
-    pub passed : (i : ℕ) → at ≤ i → i < l.count → eq (get_or l.items.now i blank) x ≡ false
+  pub record Sought (at : ℕ) : Type 0 where
+    pub within : at ≤ count
+    pub bucketed : 0 < at → of (at - 1) ≡ home
+    pub passed : (i : ℕ) → at ≤ i → i < count → eq (thing i) x ≡ false
 
-  module _ (same : Same eq) (l : Listed X) (ok : Right eq digest blank l) (x : X) where
-    pub inside : home l x < length l.heads.now
-    inside = mod_below (digest x) (length l.heads.now) ok.shaped.some
-
-    unlike : (i : ℕ) → (of l i ≡ home l x → ⊥) → eq (get_or l.items.now i blank) x ≡ false
-    unlike i off =
-        ⊎_elim (λ hit. absurd (off (ap (λ z. digest z % length l.heads.now) (same.means (get_or l.items.now i blank) x hit)))) (λ miss. miss) (cases_Bool (eq (get_or l.items.now i blank) x))
-
-    pub begins : (at : ℕ) → at ≡ head_in digest blank l (home l x) → Sought l x at
-    begins at is =
-        let b = home l x in
-        let e : at ≡ last (of l) b l.count = is ∙ ok.indexed.head b inside in
-        record {
-          within = omega (arith, last_le (of l) b l.count);
-          bucketed = λ some. subst (λ z. of l (z - 1) ≡ b) (sym e) (last_is (of l) b l.count (subst (λ z. 0 < z) e some));
-          passed = λ i le h. unlike i (last_none (of l) b l.count i (subst (λ z. z ≤ i) e le) h);
-        }
-
-    pub goes_on : (at : ℕ) → 0 < at → Sought l x at → eq (get_or l.items.now (at - 1) blank) x ≡ false → Sought l x (get_or l.next.now (at - 1) 0) × (get_or l.next.now (at - 1) 0 < at)
-    goes_on at some s miss =
-        let b = home l x in
-        let e : get_or l.next.now (at - 1) 0 ≡ last (of l) b (at - 1) = ok.indexed.link (at - 1) (omega (arith, s.within)) ∙ ap (λ z. last (of l) z (at - 1)) (s.bucketed some) in
-        let le = last_le (of l) b (at - 1) in (
-          record {
-            within = omega (arith, s.within);
-            bucketed = λ more. subst (λ z. of l (z - 1) ≡ b) (sym e) (last_is (of l) b (at - 1) (subst (λ z. 0 < z) e more));
-            passed = λ i from h.
-                ⊎_elim (λ before. unlike i (last_none (of l) b (at - 1) i (subst (λ z. z ≤ i) e from) before))
-                (λ after. ⊎_elim (λ here. let j : at - 1 ≡ i = omega arith in subst (λ z. eq (get_or l.items.now z blank) x ≡ false) j miss) (λ past. s.passed i past h) (cases_lt i at))
-                (cases_lt i (at - 1));
-          },
-          omega arith,
-        )
+  module _ (ix : Indexed eq digest blank xs count heads next) (same : Same eq) where
+    unlike : (i : ℕ) → (of i ≡ home → ⊥) → eq (thing i) x ≡ false
+    unlike i off = ⊎_elim (λ hit. absurd (off (ap (λ z. digest z % length heads) (same.means (thing i) x hit)))) (λ miss. miss) (cases_Bool (eq (thing i) x))
 
     index_none : (ys : List X) → ((i : ℕ) → i < length ys → eq (get_or ys i blank) x ≡ false) → index eq ys x ≡ length ys
     index_none [] h = refl
-    index_none (y ∷ ys) h = cond-false _ _ _ (h 0 (omega arith)) ∙ ap suc (index_none ys (λ i l. h (suc i) (omega arith)))
+    index_none (y ∷ ys) h = cond-false _ _ _ (h 0 (omega arith)) ∙ ap suc (index_none ys (λ i le. h (suc i) (omega arith)))
 
-    all : length (counted l) ≡ l.count
-    all = counted_length eq digest blank l ok
+    all : length (take count xs) ≡ count
+    all = length-take-le count xs ix.counted
 
-    pub absent : Sought l x 0 → index eq (counted l) x ≡ l.count
-    absent s = index_none (counted l) (λ i h. ap (λ z. eq z x) (get_or-take l.count l.items.now i blank (omega (arith, all))) ∙ s.passed i (omega arith) (omega (arith, all))) ∙ all
+    counted_apart : Distinct eq (take count xs)
+    counted_apart i j d less h =
+        let at : (k : ℕ) → k < count → get_or (take count xs) k d ≡ thing k = λ k h. get_or-take count xs k d h ∙ get_or_default xs k d blank (omega (arith, ix.counted)) in
+        ap (λ z. eq z (get_or (take count xs) j d)) (at i (omega (arith, all))) ∙ ap (eq (thing i)) (at j (omega (arith, all))) ∙ ix.apart i j less (omega (arith, all))
 
-    pub present : (i : ℕ) → i < l.count → eq (get_or l.items.now i blank) x ≡ true → index eq (counted l) x ≡ i
-    present i h hit =
-        index_unique eq same (counted l) x blank i (counted_apart eq digest blank l ok) (omega (arith, all)) (get_or-take l.count l.items.now i blank h ∙ same.means (get_or l.items.now i blank) x hit)
+    pub begins : (b at : ℕ) → b ≡ home → at ≡ cleaned of b count (get_or heads b 0) → Sought at
+    begins b at bucket is =
+        let inside : b < length heads = subst (λ z. z < length heads) (sym bucket) (mod_below (digest x) (length heads) ix.some) in
+        let e : at ≡ last of b count = is ∙ ix.head b inside in
+        record {
+          within = omega (arith, last_le of b count);
+          bucketed = λ some. subst (λ z. of (z - 1) ≡ home) (sym e) (last_is of b count (subst (λ z. 0 < z) e some) ∙ bucket);
+          passed = λ i le h. unlike i (λ hit. last_none of b count i (subst (λ z. z ≤ i) e le) h (hit ∙ sym bucket));
+        }
+
+    -- a number of the index that names the place i, at which y was read
+    module _ {at i : ℕ} {y : X} (s : Sought at) (is : at ≡ suc i) (read : y ≡ get_or xs i y) where
+      counts : i < count
+      counts = omega (arith, s.within)
+
+      stands : (v : Bool) → v ≡ eq y x → eq (thing i) x ≡ v
+      stands v e = ap (λ z. eq z x) (sym (get_or_read xs i y (omega (arith, counts, ix.counted)) read blank)) ∙ sym e
+
+      here : of i ≡ home
+      here = subst (λ z. of z ≡ home) {x = at - 1} {y = i} (omega arith) (s.bucketed (omega arith))
+
+      before : get_or next i 0 ≡ last of (home) i
+      before = ix.link i counts ∙ ap (λ z. last of z i) here
+
+      pub sinks : get_or next i 0 < at
+      sinks = omega (arith, before, last_le of (home) i)
+
+      pub passes : false ≡ eq y x → Sought (get_or next i 0)
+      passes miss =
+          let b = home in
+          let less = sinks in
+          record {
+            within = omega (arith, s.within);
+            bucketed = λ more. subst (λ z. of (z - 1) ≡ b) (sym before) (last_is of b i (subst (λ z. 0 < z) before more));
+            passed = λ j le h.
+                ⊎_elim (λ under. unlike j (last_none of b i j (subst (λ z. z ≤ j) before le) under))
+                (λ from. ⊎_elim (λ end. let e : i ≡ j = omega arith in subst (λ z. eq (thing z) x ≡ false) e (stands false miss)) (λ past. s.passed j past h) (cases_lt j at))
+                (cases_lt j i);
+          }
+
+      pub present : true ≡ eq y x → (i < count) × (index eq (take count xs) x ≡ i)
+      present hit =
+          (counts, index_unique eq same (take count xs) x blank i counted_apart (omega (arith, all, counts)) (get_or-take count xs i blank counts ∙ same.means (thing i) x (stands true hit)))
+
+    pub absent : (at : ℕ) → Sought at → at ≡ 0 → index eq (take count xs) x ≡ count
+    absent at s none = index_none (take count xs) (λ i le. ap (λ z. eq z x) (get_or-take count xs i blank (omega (arith, all))) ∙ s.passed i (omega arith) (omega (arith, all))) ∙ all

@@ -1,8 +1,9 @@
 -- One thing more in a hash index.
-use Rattle.std.proofs.Common.{◌≡◌, ℕ, zero, suc, ◌+◌, ◌-◌, ◌%◌, ◌<◌, ◌≤◌, Bool, false, cond, ◌&&◌, eqb, ltb, leb, ◌≢◌, List, [], ◌∷◌, ◌++◌, length, get_or, take, set, sym, refl, ap, ◌∙◌, subst, ⊎_elim, add-one, arith, length-set}
+use Rattle.std.proofs.Common.{◌≡◌, ℕ, zero, suc, ◌+◌, ◌-◌, ◌%◌, ◌<◌, ◌≤◌, Bool, false, cond, ◌&&◌, eqb, ltb, leb, ◌≢◌, List, length, get_or, take, set, sym, refl, ap, ◌∙◌, subst, ⊎_elim, add-one, arith, length-set}
+use Rattle.std.proofs.lemmas.Nat.{mod_below}
 use Rattle.std.proofs.lemmas.List.{get_or-take, length-take-le, get_or-set_same, get_or-set_other}
-use Rattle.std.proofs.lemmas.Bool.{cond_both, cond-true, cond-false, cases_lt, cases_eq, eq-eqb, ne_eqb, lt-ltb, le-ltb, le-leb, lt-leb, and_from, and_left, and_right}
-use Rattle.reduction.specs.Listed.{Same, index, listed}
+use Rattle.std.proofs.lemmas.Bool.{cond_both, cond-true, cond-false, cases_lt, cases_eq, eq-eqb, ne_eqb, lt-ltb, le-leb, lt-leb, and_from, and_left, and_right}
+use Rattle.reduction.specs.Listed.{Same, index}
 use Rattle.reduction.proofs.Interning.{missed}
 use Rattle.listing.specs.Hashing.{bucket_of, last, current, cleaned, Indexed}
 
@@ -36,11 +37,10 @@ still of of' c count h same off =
     (λ zero-head. let e : h ≡ 0 = omega arith in rw e (none (current of' c (suc count) 0) ∙ sym (none (current of c count 0)))) (cases_lt 0 h))
     (cases_lt count h)
 
-module _ {X : Type 0} (eq : X → X → Bool) (same : Same eq) (digest : X → ℕ) (blank : X) (xs : List X) (count : ℕ) (heads next : List ℕ) (ix : Indexed eq digest blank xs count heads next) (x : X) (room : count < length xs)
-    (long : count < length next) (new : index eq (take count xs) x ≡ count) (h : ℕ)
-    (is : h ≡ cleaned (bucket_of digest (length heads) xs blank) (digest x % length heads) count (get_or heads (digest x % length heads) 0)) (inside : digest x % length heads < length heads) where
-  abbrev b : ℕ
-  b = digest x % length heads
+module _ {X : Type 0} {eq : X → X → Bool} {digest : X → ℕ} {blank : X} {xs : List X} {count : ℕ} {heads next : List ℕ} (same : Same eq) (ix : Indexed eq digest blank xs count heads next) (x : X) (room : count < length xs)
+    (new : index eq (take count xs) x ≡ count) {b h : ℕ} (bucket : b ≡ digest x % length heads) (is : h ≡ cleaned (bucket_of digest (length heads) xs blank) b count (get_or heads b 0)) where
+  inside : b < length heads
+  inside = subst (λ z. z < length heads) (sym bucket) (mod_below (digest x) (length heads) ix.some)
 
   abbrev of : ℕ → ℕ
   of = bucket_of digest (length heads) xs blank
@@ -55,7 +55,7 @@ module _ {X : Type 0} (eq : X → X → Bool) (same : Same eq) (digest : X → �
   same_of i l = ap (λ z. digest z % length heads) (other i l)
 
   here_of : of' count ≡ b
-  here_of = ap (λ z. digest z % length heads) (get_or-set_same xs count x blank room)
+  here_of = ap (λ z. digest z % length heads) (get_or-set_same xs count x blank room) ∙ sym bucket
 
   lasts : (c k : ℕ) → k ≤ count → last of c k ≡ last of' c k
   lasts c k le = last_same of of' c k (λ i l. sym (same_of i (omega arith)))
@@ -87,7 +87,7 @@ module _ {X : Type 0} (eq : X → X → Bool) (same : Same eq) (digest : X → �
       get_or-set_other next count i h 0 ne ∙ ix.link i less ∙ lasts (of i) i (omega arith) ∙ ap (λ z. last of' z i) (sym (same_of i less)))
       (λ end.
       let e : i ≡ count = omega arith in
-      rw e (get_or-set_same next count h 0 long ∙ is ∙ ix.head b inside ∙ lasts b count (omega arith) ∙ ap (λ z. last of' z count) (sym here_of)))
+      rw e (get_or-set_same next count h 0 (omega (arith, ix.long)) ∙ is ∙ ix.head b inside ∙ lasts b count (omega arith) ∙ ap (λ z. last of' z count) (sym here_of)))
       (cases_lt i count)
 
   apart' : (i j : ℕ) → i < j → j < suc count → eq (get_or (set xs count x) i blank) (get_or (set xs count x) j blank) ≡ false
@@ -95,7 +95,7 @@ module _ {X : Type 0} (eq : X → X → Bool) (same : Same eq) (digest : X → �
       ⊎_elim (λ less. ap (λ z. eq z (get_or (set xs count x) j blank)) (other i (omega arith)) ∙ ap (eq (get_or xs i blank)) (other j less) ∙ ix.apart i j l less)
       (λ end.
       let e : j ≡ count = omega arith in
-      let all : length (take count xs) ≡ count = length-take-le count xs (omega arith) in
+      let long : length (take count xs) ≡ count = length-take-le count xs ix.counted in
       rw e
       (ap (λ z. eq z (get_or (set xs count x) count blank)) (other i (omega arith)) ∙ ap (eq (get_or xs i blank)) (get_or-set_same xs count x blank room)
       ∙ ap (λ z. eq z x) (sym (get_or-take count xs i blank (omega arith))) ∙ missed eq same (take count xs) x blank i (omega arith)))
@@ -106,11 +106,11 @@ module _ {X : Type 0} (eq : X → X → Bool) (same : Same eq) (digest : X → �
       let many : length heads' ≡ length heads = length-set heads b (count + 1) in
       subst (λ k. Indexed eq digest blank (set xs count x) k heads' (set next count h)) (sym (add-one count))
       (record {
+        counted = omega (arith, length-set xs count x);
+        small = omega (arith, length-set xs count x, ix.small);
+        some = omega (arith, ix.some);
+        long = omega (arith, length-set xs count x, length-set next count h, ix.long);
         head = λ c l. subst (λ n. cleaned (bucket_of digest n (set xs count x) blank) c (suc count) (get_or heads' c 0) ≡ last (bucket_of digest n (set xs count x) blank) c (suc count)) (sym many) (head' c (omega arith));
         link = λ i l. subst (λ n. get_or (set next count h) i 0 ≡ last (bucket_of digest n (set xs count x) blank) (bucket_of digest n (set xs count x) blank i) i) (sym many) (link' i l);
         apart = apart';
       })
-
--- a thing that stands nowhere is listed at the end
-pub listed_new : {X : Type 0} (eq : X → X → Bool) (xs : List X) (x : X) → index eq xs x ≡ length xs → listed eq xs x ≡ xs ++ x ∷ []
-listed_new eq xs x e = cond-false _ _ _ (le-ltb (index eq xs x) (length xs) (omega arith))

@@ -1,12 +1,10 @@
 // Links two references by a node that tests the condition at a level of the order.
-ghost use Rattle.std.specs.Prelude.{◌≡◌, ◌+◌, ◌<◌};
-ghost use Rattle.diagram.specs.Lawful.{blank as no_node};
-ghost use Rattle.listing.specs.Hashing.{Right, Stays};
+ghost use Rattle.std.specs.Prelude.{◌≡◌, ◌+◌, ◌<◌, ◌≤◌, length};
+ghost use Rattle.listing.specs.Listing.{Stays};
 ghost use Rattle.listing.specs.Linking.{Linking};
-ghost use Rattle.reduction.specs.Walk.{same_node, node_digest, node_for};
+ghost use Rattle.reduction.specs.Walk.{node_for};
 
 use crate::listed::Listed;
-use crate::unique::intern;
 use diagram::conditions::{After, Before, Condition};
 use diagram::nodes::{FIRST_NODE, Node};
 
@@ -29,6 +27,7 @@ fn node_for(conditions: u8, level: u16, one: u32, zero: u32) -> Node
 }
 
 // The reference to the node with these two branches, or to what both lead to; none where it would be one node too many.
+// The size is asked here: in the type of the list it would forbid longer ones, which need no references.
 pub fn link(
     conditions: u8,
     level: u16,
@@ -37,14 +36,13 @@ pub fn link(
     zero: u32,
 ) -> Option<u32>
     requires leveled { level < conditions + conditions }
-    requires right { Right same_node node_digest no_node nodes.old }
-    ensures right { Right same_node node_digest no_node nodes.new }
+    requires small { length nodes.old.items.now ≤ 65535 }
     ensures linked { Linking conditions level one zero nodes.old nodes.new result }
     ensures stays { Stays nodes.old nodes.new }
 {
     if one == zero {
         return Some(zero);
     }
-    let place = intern(nodes, node_for(conditions, level, one, zero))?;
+    let place = nodes.intern(node_for(conditions, level, one, zero))?;
     Some(FIRST_NODE + place as u32)
 }

@@ -1,6 +1,6 @@
 // The unique table: finding a thing in a list where it stands once, by a hash index.
-ghost use Rattle.std.specs.Prelude.{◌≡◌, ◌%◌, ◌<◌, ◌≤◌, length};
-ghost use Rattle.listing.specs.Hashing.{counted, bucket_of, current, head_in, Right, Found, Interning, Pushed, Stays};
+ghost use Rattle.std.specs.Prelude.{◌≡◌, suc, ◌+◌, ◌%◌, ◌<◌, ◌≤◌, length, take, MatchOption, slice_index, slice_set};
+ghost use Rattle.listing.specs.Hashing.{bucket_of, current, cleaned, Indexed, FoundAmong};
 ghost use Rattle.reduction.specs.Listed.{index};
 
 use crate::listed::Listed;
@@ -13,39 +13,49 @@ fn bucket<X: Interned>(x: X, buckets: usize) -> usize
     (x.digest() % buckets as u64) as usize
 }
 
+// The place that a number of the index names; 0 names none.
+fn place_of(number: u32) -> Option<usize>
+    ensures { MatchOption result (number ≡ 0) (λ i. number ≡ suc i) }
+{
+    number.checked_sub(1).map(|i| i as usize)
+}
+
 // Whether a number of the index names a counted thing of a bucket.
 fn is_current<X: Interned>(items: &[X], count: usize, buckets: usize, b: usize, head: u32) -> bool
     requires some { 0 < buckets }
     requires counted { count ≤ length items.now }
     ensures { result ≡ current (bucket_of X.Interned.digested buckets items.now X.Interned.blank) b count head }
 {
-    0 < head && head as usize <= count && bucket(items[head as usize - 1], buckets) == b
+    place_of(head).is_some_and(|i| i < count && bucket(items[i], buckets) == b)
 }
 
 // The head of a bucket, if it still names a counted thing of that bucket; else 0.
-fn head_of<X: Interned>(list: &Listed<X>, b: usize) -> u32
-    requires within { b < length list.now.heads.now }
-    requires counted { list.now.count ≤ length list.now.items.now }
-    ensures { result ≡ head_in X.Interned.digested X.Interned.blank list.now b }
+fn head_of<X: Interned>(items: &[X], count: usize, heads: &[u32], b: usize) -> u32
+    requires within { b < length heads.now }
+    requires counted { count ≤ length items.now }
+    ensures { result ≡ cleaned (bucket_of X.Interned.digested (length heads.now) items.now X.Interned.blank) b count (slice_index heads.now b) }
 {
-    let head = list.heads[b];
-    if is_current(list.items, list.count, list.heads.len(), b, head) {
+    let head = heads[b];
+    if is_current(items, count, heads.len(), b, head) {
         head
     } else {
         0
     }
 }
 
-// The place at which a thing stands among the counted ones.
-fn find<X: Interned>(list: &Listed<X>, x: X) -> Option<usize>
-    requires { Right X.Interned.equal X.Interned.digested X.Interned.blank list.now }
-    ensures { Found X.Interned.equal list.now x result }
+// The place at which a thing stands among the counted ones of lists that are lent for reading.
+pub fn find<X: Interned>(
+    items: &[X],
+    count: usize,
+    heads: &[u32],
+    next: &[u32],
+    x: X,
+) -> Option<usize>
+    requires { Indexed X.Interned.equal X.Interned.digested X.Interned.blank items.now count heads.now next.now }
+    ensures { FoundAmong X.Interned.equal items.now count x result }
 {
-    let items: &[X] = list.items;
-    let next: &[u32] = list.next;
-    let mut at = head_of(list, bucket(x, list.heads.len()));
-    while at > 0 {
-        let i = at as usize - 1;
+    let mut at = head_of(items, count, heads, bucket(x, heads.len()));
+    while let Some(i) = place_of(at) {
         if items[i].same(x) {
             return Some(i);
         }
@@ -54,37 +64,45 @@ fn find<X: Interned>(list: &Listed<X>, x: X) -> Option<usize>
     None
 }
 
-// Puts a thing that is not listed yet at the end of the counted ones.
-fn push<X: Interned>(list: &mut Listed<X>, x: X)
-    requires right { Right X.Interned.equal X.Interned.digested X.Interned.blank list.old }
-    requires room { list.old.count < list.old.capacity }
-    requires new { index X.Interned.equal (counted list.old) x ≡ list.old.count }
-    ensures right { Right X.Interned.equal X.Interned.digested X.Interned.blank list.new }
-    ensures pushed { Pushed list.old list.new x }
-    ensures stays { Stays list.old list.new }
+// Puts a thing that is not listed yet at the end of the counted ones. The index is wrong between the writes, so they are made to plain lists.
+fn push<X: Interned>(items: &mut [X], count: &mut usize, heads: &mut [u32], next: &mut [u32], x: X)
+    requires indexed { Indexed X.Interned.equal X.Interned.digested X.Interned.blank items.old count.old heads.old next.old }
+    requires room { count.old < length items.old }
+    requires new { index X.Interned.equal (take count.old items.old) x ≡ count.old }
+    ensures indexed { Indexed X.Interned.equal X.Interned.digested X.Interned.blank items.new count.new heads.new next.new }
+    ensures after { items.new ≡ slice_set items.old count.old x }
+    ensures counts { count.new ≡ count.old + 1 }
 {
-    let c = list.count;
-    let b = bucket(x, list.heads.len());
-    list.next[c] = head_of(list, b);
-    list.items[c] = x;
-    list.heads[b] = c as u32 + 1;
-    list.count = c + 1;
+    let b = bucket(x, heads.len());
+    next[*count] = head_of(items, *count, heads, b);
+    items[*count] = x;
+    *count += 1;
+    heads[b] = *count as u32;
 }
 
-// Lists a thing and gives its place, or none where there is no place left for it.
-pub fn intern<X: Interned>(list: &mut Listed<X>, x: X) -> Option<usize>
-    requires { Right X.Interned.equal X.Interned.digested X.Interned.blank list.old }
-    ensures right { Right X.Interned.equal X.Interned.digested X.Interned.blank list.new }
-    ensures interned { Interning X.Interned.equal list.old list.new x result }
-    ensures stays { Stays list.old list.new }
-{
-    if let Some(i) = find(list, x) {
-        return Some(i);
+impl<'a, X: Interned> Listed<'a, X> {
+    ghost use Rattle.listing.specs.Listing.{Found, Interning, Stays};
+
+    // The place at which a thing stands among the counted ones.
+    pub fn find(&self, x: X) -> Option<usize>
+        ensures { Found X.Interned.equal self.now x result }
+    {
+        find(self.items, self.count, self.heads, self.next, x)
     }
-    let n = list.count;
-    if n == list.capacity {
-        return None;
+
+    // Lists a thing and gives its place, or none where there is no place left for it.
+    pub fn intern(&mut self, x: X) -> Option<usize>
+        ensures interned { Interning X.Interned.equal self.old self.new x result }
+        ensures stays { Stays self.old self.new }
+    {
+        if let Some(i) = self.find(x) {
+            return Some(i);
+        }
+        let n = self.count;
+        if n == self.items.len() {
+            return None;
+        }
+        push(self.items, &mut self.count, self.heads, self.next, x);
+        Some(n)
     }
-    push(list, x);
-    Some(n)
 }

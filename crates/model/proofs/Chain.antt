@@ -4,7 +4,8 @@ use Rattle.faults.specs.declared.ModelFault.{ModelFault}
 use Rattle.faults.specs.Tests.{Test, first_fault, Verdict}
 use Rattle.faults.proofs.Order.{then_none, then_some}
 use Rattle.model_file.specs.Reading.{Lists}
-use Rattle.model.specs.Checking.{reward_within, chance_within, size_tests, limit_tests, node_tests, root_tests, model_tests}
+use Rattle.tables.specs.Limits.{reward_within, chance_within}
+use Rattle.model.specs.Checking.{size_tests, limit_tests, node_tests, root_tests, model_tests}
 
 module _ (n m b : ℕ) (l : Lists) where
   abbrev pub sizes : List (Test ModelFault)
@@ -23,7 +24,7 @@ module _ (n m b : ℕ) (l : Lists) where
   chance_nodes = node_tests 5 n (length l.chances) l.chance_nodes
 
   abbrev pub roots : List (Test ModelFault)
-  roots = root_tests (length l.rewards) (length l.reward_nodes) (length l.chances) (length l.chance_nodes) l.roots
+  roots = root_tests l
 
   abbrev pub from_nodes : List (Test ModelFault)
   from_nodes = reward_nodes ++ (chance_nodes ++ roots)
@@ -36,9 +37,6 @@ module _ (n m b : ℕ) (l : Lists) where
 
   after_chances : first_fault sizes ≡ None → first_fault rewards ≡ None → first_fault chances ≡ None → first_fault (model_tests n m b l) ≡ first_fault from_nodes
   after_chances s r c = after_rewards s r ∙ then_none chances from_nodes c
-
-  pub sizes_fail : (f : ModelFault) → first_fault sizes ≡ Some f → first_fault (model_tests n m b l) ≡ Some f
-  sizes_fail f e = then_some sizes (rewards ++ (chances ++ from_nodes)) f e
 
   pub rewards_fail : (f : ModelFault) → first_fault sizes ≡ None → first_fault rewards ≡ Some f → first_fault (model_tests n m b l) ≡ Some f
   rewards_fail f s e = after_sizes s ∙ then_some rewards (chances ++ from_nodes) f e

@@ -1,6 +1,6 @@
 -- What a lawful model's tests tell of its sizes, its two tables and its roots.
-use Rattle.std.proofs.Common.{◌≡◌, ℕ, ◌+◌, ◌*◌, ◌<◌, ◌≤◌, true, ◌++◌, length, get_or, sym, ◌∙◌, arith}
-use Rattle.std.proofs.lemmas.Bool.{and_parts, leb-true, cond-false, ne_eqb}
+use Rattle.std.proofs.Common.{◌≡◌, ℕ, ◌+◌, ◌*◌, ◌<◌, true, ◌++◌, length, get_or, sym, ◌∙◌, arith}
+use Rattle.std.proofs.lemmas.Bool.{cond-false, ne_eqb}
 use Rattle.diagram.specs.Lawful.{names, Lawful}
 use Rattle.diagram.specs.Order.{states}
 use Rattle.faults.specs.Tests.{passes}
@@ -12,11 +12,6 @@ use Rattle.model.specs.Checking.{is_named, model_tests}
 use Rattle.model.proofs.Chain.{sizes, rewards, chances, reward_nodes, chance_nodes, roots, from_nodes}
 
 module _ (n m b : ℕ) (l : Lists) (lawful : passes (model_tests n m b l) ≡ true) where
-  pub size_limits : (n ≤ 24) × (m ≤ 16)
-  size_limits =
-      let s = and_parts _ _ (passes_left (sizes n m b l) (rewards n m b l ++ (chances n m b l ++ from_nodes n m b l)) lawful) in
-      (leb-true _ _ (and_parts _ _ s.0).1, leb-true _ _ (and_parts _ _ (and_parts _ _ s.1).0).1)
-
   nodes_pass : passes (from_nodes n m b l) ≡ true
   nodes_pass =
       passes_right (chances n m b l) (from_nodes n m b l)
@@ -31,7 +26,7 @@ module _ (n m b : ℕ) (l : Lists) (lawful : passes (model_tests n m b l) ≡ tr
   pub chance_table : Lawful (states n) (length l.chances) l.chance_nodes
   chance_table k less = each_holds _ _ k less (passes_left (chance_nodes n m b l) (roots n m b l) rest_pass)
 
-  root_named : (k : ℕ) → k < length l.roots → is_named (length l.rewards) (length l.reward_nodes) (length l.chances) (length l.chance_nodes) k (get_or l.roots k 0) ≡ true
+  root_named : (k : ℕ) → k < length l.roots → is_named l k (get_or l.roots k 0) ≡ true
   root_named k less = each_holds _ _ k less (passes_right (chance_nodes n m b l) (roots n m b l) rest_pass)
 
   pub reward_root_named : 0 < length l.roots → names (length l.rewards) (length l.reward_nodes) (get_or l.roots 0 0) ≡ true

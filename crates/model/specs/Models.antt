@@ -1,6 +1,6 @@
 -- A model, and what checking a draft comes to.
 --     lists_of x              the lists that the model x holds
---     IsModel n m b l x       x has n conditions, m moves, the discount b and the lists l
+--     IsModel s l x           x has the sizes s and the lists l
 --     blank_lists             the lists of the model from which a caller starts: one reward and one chance, both 0, and no node
 --     long_enough d l         the lists have all entries that the draft counts
 --     cut d l                 the entries that the draft counts
@@ -13,24 +13,24 @@ use Rattle.faults.specs.declared.FileFault.TheVariants.{ListTooShort}
 use Rattle.faults.specs.declared.ModelFault.{ModelFault}
 use Rattle.faults.specs.Tests.{Test, test, Verdict}
 use Rattle.model_file.specs.declared.draft.Draft.{Draft}
+use Rattle.model_file.specs.declared.sizes.Sizes.{Sizes}
 use Rattle.model_file.specs.Reading.{Lists, five}
 use Rattle.model.specs.declared.model.Model.{Model}
 use Rattle.model.specs.Checking.{model_tests}
+use Rattle.model.specs.Held.{lists_in}
 
 abbrev pub lists_of : Model → Lists
-lists_of x = five x.rewards.now x.chances.now x.reward_nodes.now x.chance_nodes.now x.roots.now
+lists_of x = lists_in x.lists
 
-pub record IsModel (n m b : ℕ) (l : Lists) (x : Model) : Type 0 where
-  pub conditions : x.conditions ≡ n
-  pub moves : x.moves ≡ m
-  pub discount : x.discount ≡ b
+pub record IsModel (s : Sizes) (l : Lists) (x : Model) : Type 0 where
+  pub sizes : x.sizes ≡ s
   pub lists : lists_of x ≡ l
 
 abbrev pub blank_lists : Lists
 blank_lists = five (pos 0 ∷ []) (0 ∷ []) [] [] (0 ∷ 0 ∷ [])
 
 abbrev pub root_count : Draft → ℕ
-root_count d = 1 + d.moves * d.conditions
+root_count d = 1 + d.sizes.moves * d.sizes.conditions
 
 abbrev pub long_enough : Draft → Lists → Bool
 long_enough d l =
@@ -46,13 +46,13 @@ abbrev pub of_model : Test ModelFault → Test Fault
 of_model t = test t.holds (OfModel t.fault)
 
 abbrev pub check_tests : Draft → Lists → List (Test Fault)
-check_tests d l = test (long_enough d l) (File ListTooShort) ∷ map of_model (model_tests d.conditions d.moves d.discount (cut d l))
+check_tests d l = test (long_enough d l) (File ListTooShort) ∷ map of_model (model_tests d.sizes.conditions d.sizes.moves d.sizes.discount (cut d l))
 
 -- the caller's model x becomes x', the one of these sizes and lists, or stays
-pub record Fills (n m b : ℕ) (l : Lists) (x x' : Model) (r : Result (Unit {0}) ModelFault) : Type 0 where
-  pub answer : Verdict (model_tests n m b l) r
-  pub leaves : MatchResult r (λ _. IsModel n m b l x') (λ _. x' ≡ x)
+pub record Fills (s : Sizes) (l : Lists) (x x' : Model) (r : Result (Unit {0}) ModelFault) : Type 0 where
+  pub answer : Verdict (model_tests s.conditions s.moves s.discount l) r
+  pub leaves : MatchResult r (λ _. IsModel s l x') (λ _. x' ≡ x)
 
 pub record Checks (d : Draft) (l : Lists) (x x' : Model) (r : Result (Unit {0}) Fault) : Type 0 where
   pub answer : Verdict (check_tests d l) r
-  pub leaves : MatchResult r (λ _. IsModel d.conditions d.moves d.discount (cut d l) x') (λ _. x' ≡ x)
+  pub leaves : MatchResult r (λ _. IsModel d.sizes (cut d l) x') (λ _. x' ≡ x)

@@ -1,21 +1,16 @@
 // One row of the table.
 use crate::hex::bytes_of;
-use crate::shown::{show_all, show_nodes};
+use crate::shown::show_lists;
 use diagram::conditions::{Before, Condition};
 use diagram::nodes::Node;
 use model::load::load;
-use model_file::draft::Draft;
+use model_file::lists::Lists;
 use std::alloc::{AllocError, Global};
 
 // The next of the lengths, or what is long enough for a file of so many bytes.
 fn length(word: Option<&str>, file: usize) -> usize {
-    match word {
-        Some(word) => match word.parse::<usize>() {
-            Ok(n) => n.min(file),
-            Err(_) => file,
-        },
-        None => file,
-    }
+    word.and_then(|word| word.parse().ok())
+        .map_or(file, |n: usize| n.min(file))
 }
 
 // What loading answers; where the lengths are given, with what the lists hold after it. Each list begins with a mark of its own in every place.
@@ -34,30 +29,22 @@ pub fn answer(heap: Global, lengths: &str, text: &str) -> Result<String, AllocEr
     let mut reward_nodes = vec![in heap; mark; length(words.next(), n)]?;
     let mut chance_nodes = vec![in heap; mark; length(words.next(), n)]?;
     let mut roots = vec![in heap; 7u32; length(words.next(), n)]?;
-    let mut out = match load(
-        &file,
-        &mut rewards,
-        &mut chances,
-        &mut reward_nodes,
-        &mut chance_nodes,
-        &mut roots,
-    ) {
-        Ok(draft) => loaded(heap, draft)?,
+    let mut lists = Lists {
+        rewards: &mut rewards,
+        chances: &mut chances,
+        reward_nodes: &mut reward_nodes,
+        chance_nodes: &mut chance_nodes,
+        roots: &mut roots,
+    };
+    let mut out = match load(&file, &mut lists) {
+        Ok(draft) => {
+            let sizes = draft.sizes;
+            format!(in heap; "loaded {sizes}")?
+        }
         Err(fault) => format!(in heap; "{fault}")?,
     };
     if shows {
-        show_all(&mut out, " | rewards", &rewards)?;
-        show_all(&mut out, " | chances", &chances)?;
-        show_nodes(&mut out, " | reward nodes", &reward_nodes)?;
-        show_nodes(&mut out, " | chance nodes", &chance_nodes)?;
-        show_all(&mut out, " | roots", &roots)?;
+        show_lists(&mut out, &lists)?;
     }
     Ok(out)
-}
-
-fn loaded(heap: Global, draft: Draft) -> Result<String, AllocError> {
-    let conditions = draft.conditions;
-    let moves = draft.moves;
-    let discount = draft.discount;
-    format!(in heap; "loaded conditions {conditions} moves {moves} discount {discount}")
 }

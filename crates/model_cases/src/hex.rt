@@ -1,7 +1,11 @@
 // Bytes written in base sixteen.
+ghost use Rattle.std.specs.Prelude.{◌<◌};
+
 use std::alloc::{AllocError, Global};
 
-fn digit(sign: u8) -> u8 {
+fn digit(sign: u8) -> u8
+    ensures { result < 16 }
+{
     match sign {
         b'0'..=b'9' => sign - b'0',
         b'a'..=b'f' => sign - b'a' + 10,
@@ -12,14 +16,9 @@ fn digit(sign: u8) -> u8 {
 // A byte for each two signs; a sign that is no digit counts as 0.
 pub fn bytes_of(heap: Global, text: &str) -> Result<Vec<u8>, AllocError> {
     let mut bytes = Vec::new(heap);
-    let mut high: Option<u8> = None;
-    for sign in text.bytes() {
-        match high {
-            None => high = Some(digit(sign)),
-            Some(h) => {
-                bytes.push((h & 15) * 16 + (digit(sign) & 15))?;
-                high = None;
-            }
+    for pair in text.as_bytes().chunks_exact(2) {
+        if let [high, low] = pair {
+            bytes.push(digit(*high) * 16 + digit(*low))?;
         }
     }
     Ok(bytes)

@@ -1,4 +1,5 @@
 pub mod Written
+pub mod Chunks
 pub mod Stored
 pub mod Progress
 pub mod Once

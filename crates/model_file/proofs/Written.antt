@@ -1,7 +1,6 @@
 -- A list into which entries are written from its start: one entry more.
-use Rattle.std.proofs.Common.{◌≡◌, ℕ, ◌+◌, ◌-◌, ◌*◌, ◌/◌, ◌<◌, ◌≤◌, List, [], ◌∷◌, ◌++◌, length, get_or, drop, set, sym, ap, ◌∙◌, append_assoc, add-mul, arith, length-append, length-drop}
+use Rattle.std.proofs.Common.{◌≡◌, ℕ, ◌+◌, ◌-◌, ◌<◌, List, [], ◌∷◌, ◌++◌, length, get_or, drop, set, sym, ap, ◌∙◌, append_assoc, arith, length-append, length-drop}
 use Rattle.std.proofs.lemmas.List.{drop_more, set_at, length_push}
-use Rattle.std.proofs.lemmas.Nat.{mul-le, div-add-mod'}
 use Rattle.std.proofs.lemmas.List.FromFn.{map-range_with_len_more, length-map-range_with_len}
 use Rattle.model_file.specs.Entries.{first_entries, bytes_of, written}
 
@@ -23,10 +22,3 @@ entry_more w f body xs old now at j long room is =
     let fits : at + j < length old = omega (arith, length_written zs old, ap length is, count) in
     ap (λ l. set l (at + j) (f (bytes_of w body j))) is ∙ written_more zs old (at + j) (f (bytes_of w body j)) count fits
     ∙ ap (λ l. written l old) (append_assoc xs (first_entries w f body j) (f (bytes_of w body j) ∷ []) ∙ ap (λ l. xs ++ l) (sym (map-range_with_len_more (λ i. f (bytes_of w body i)) 0 j j (omega arith))))
-
--- an entry before the last whole one lies within the body
-pub entry_within : (w j n : ℕ) → 0 < w → j < n / w → j * w + w ≤ n
-entry_within w j n some h =
-    let whole = div-add-mod' n w in
-    let up : (j + 1) * w ≤ n / w * w = mul-le (j + 1) w (n / w) w (omega arith) (omega arith) in
-    omega (arith, add-mul j 1 w)

@@ -2,17 +2,21 @@
 --     tag, body_length, body       the parts of the field
 --     whole rest                   the file goes on to the end of the field
 --     known t                      t is one of the six tags
+--     Numbered n r                 r is the tag with the number n, or says that n is no tag's
 --     in_turn last t               t may follow the tag `last`, which is 0 before the first field: tags never fall, 1 comes first, 1 and 6 come once
 --     right_length n m t k         k is a length that a body under t may have: some whole entries, or for the tags 1 and 6 just those there must be
 --     shape_tests p last n m rest  what is tested of the field at place p before any entry is looked at
 --     FieldAt p rest f             f is that field
-use Rattle.std.specs.Prelude.{◌≡◌, ℕ, ◌+◌, ◌*◌, ◌%◌, Bool, cond, ◌&&◌, ◌||◌, List, [], ◌∷◌, length, take, drop, ◌==◌, nat_le, nat_lt, slice_index}
+use Rattle.std.specs.Prelude.{◌≡◌, ℕ, ◌+◌, ◌*◌, ◌%◌, Bool, true, false, cond, ◌&&◌, ◌||◌, List, [], ◌∷◌, length, take, drop, Result, MatchResult, ◌==◌, nat_le, nat_lt, slice_index}
 use Rattle.faults.specs.declared.FileFault.{FileFault}
 use Rattle.faults.specs.declared.FileFault.TheVariants.{CutShort, UnknownTag, OutOfTurn, BadLength}
 use Rattle.faults.specs.Tests.{Test, test}
 use Rattle.model_file.specs.declared.field.Field.{Field}
 use Rattle.model_file.specs.declared.field.Field.TheVariants.{Sizes, Rewards, Chances, RewardNodes, ChanceNodes, Roots}
+use Rattle.model_file.specs.declared.tag.Tag.{Tag}
+use Rattle.model_file.specs.declared.tag.NoSuchTag.{NoSuchTag}
 use Rattle.model_file.specs.Entries.{number}
+use Rattle.model_file.specs.Tags.{code}
 
 abbrev pub tag : List ℕ → ℕ
 tag rest = slice_index rest 0
@@ -37,6 +41,10 @@ entry_width t = cond (t == 2) 8 (cond (t == 3) 2 9)
 
 abbrev pub right_length : ℕ → ℕ → ℕ → ℕ → Bool
 right_length n m t k = cond (t == 1) (k == 4) (cond (t == 6) (k == 4 * (1 + m * n)) (nat_lt 0 k && k % entry_width t == 0))
+
+-- r is the tag with the number n, or says that n is no tag's
+abbrev pub Numbered : ℕ → Result Tag NoSuchTag → Type 0
+Numbered n r = MatchResult r (λ t. (known n ≡ true) × (n ≡ code t)) (λ u. (known n ≡ false) × (n ≡ u.0))
 
 abbrev pub tag_of : Field → ℕ
 tag_of (Sizes b p) = 1

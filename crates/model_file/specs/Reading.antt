@@ -91,9 +91,7 @@ field_tests room t rest = shape_tests t.place t.last t.conditions t.moves rest +
 abbrev pub draft_of : Taken → Draft
 draft_of t =
     record {
-      conditions = t.conditions;
-      moves = t.moves;
-      discount = t.discount;
+      sizes = record { conditions = t.conditions; moves = t.moves; discount = t.discount };
       rewards = length t.lists.rewards;
       chances = length t.lists.chances;
       reward_nodes = length t.lists.reward_nodes;

@@ -1,10 +1,9 @@
 // What reading gives: the sizes of the model and how many entries each list has. The roots number one and moves times conditions.
+use crate::sizes::Sizes;
 
-#[derive(Clone, Copy)]
+#[derive(Clone, Copy, PartialEq, Eq, Debug, Default)]
 pub struct Draft {
-    pub conditions: u8,
-    pub moves: u8,
-    pub discount: u16,
+    pub sizes: Sizes,
     pub rewards: usize,
     pub chances: usize,
     pub reward_nodes: usize,

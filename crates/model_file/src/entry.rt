@@ -6,87 +6,77 @@ ghost use Rattle.std.proofs.Common.{rules};
 use diagram::conditions::{Before, Condition};
 use diagram::nodes::Node;
 
+// An impl for each number: they differ in size, and an array's length cannot be a constant of the type.
 pub trait Entry: Copy {
-    ghost width: { ℕ };
+    const SIZE: usize;
+
+    ghost SIZE: { ℕ };
 
     ghost meaning: { List ℕ → Self };
 
-    fn size() -> usize
-        ensures { result ≡ width };
-
     fn decode(bytes: &[u8]) -> Self
-        requires { length bytes.now ≡ width }
+        requires { length bytes.now ≡ SIZE }
         ensures { result ≡ meaning bytes.now };
 
-    ghost some: { 0 < width };
+    ghost some: { 0 < SIZE };
 }
 
 impl Entry for i64 {
-    ghost width = { 8 };
+    const SIZE: usize = 8;
+
+    ghost SIZE = { 8 };
 
     ghost meaning = { reward_of };
 
     ghost some = { Prim.search rules };
 
-    fn size() -> usize {
-        8
-    }
-
     fn decode(bytes: &[u8]) -> i64 {
-        i64::from_be_bytes([
-            bytes[0], bytes[1], bytes[2], bytes[3], bytes[4], bytes[5], bytes[6], bytes[7],
-        ])
+        i64::from_be_bytes(bytes.try_into().unwrap())
     }
 }
 
 impl Entry for u16 {
-    ghost width = { 2 };
+    const SIZE: usize = 2;
+
+    ghost SIZE = { 2 };
 
     ghost meaning = { chance_of };
 
     ghost some = { Prim.search rules };
 
-    fn size() -> usize {
-        2
-    }
-
     fn decode(bytes: &[u8]) -> u16 {
-        u16::from_be_bytes([bytes[0], bytes[1]])
+        u16::from_be_bytes(bytes.try_into().unwrap())
     }
 }
 
 impl Entry for u32 {
-    ghost width = { 4 };
+    const SIZE: usize = 4;
+
+    ghost SIZE = { 4 };
 
     ghost meaning = { root_of };
 
     ghost some = { Prim.search rules };
 
-    fn size() -> usize {
-        4
-    }
-
     fn decode(bytes: &[u8]) -> u32 {
-        u32::from_be_bytes([bytes[0], bytes[1], bytes[2], bytes[3]])
+        u32::from_be_bytes(bytes.try_into().unwrap())
     }
 }
 
 impl Entry for Node {
-    ghost width = { 9 };
+    const SIZE: usize = 9;
+
+    ghost SIZE = { 9 };
 
     ghost meaning = { node_of };
 
     ghost some = { Prim.search rules };
 
-    fn size() -> usize {
-        9
-    }
-
     fn decode(bytes: &[u8]) -> Node {
         Node {
             condition: Condition::Before(Before(bytes[0])),
-            one: u32::from_be_bytes([bytes[1], bytes[2], bytes[3], bytes[4]]),
-            zero: u32::from_be_bytes([bytes[5], bytes[6], bytes[7], bytes[8]]),
+            one: u32::decode(&bytes[1..5]),
+            zero: u32::decode(&bytes[5..]),
         }
     }
 }

@@ -12,7 +12,7 @@ pub enum Command<'a> {
 impl<'a> Command<'a> {
     // The command of a line. Words stand apart by white space; a blank line and a comment are no command.
     pub fn of(line: &'a str) -> Command<'a> {
-        if line.as_bytes().first().copied() == Some(b'#') {
+        if line.starts_with('#') {
             return Command::Nothing;
         }
         let mut words = line.split_ascii_whitespace();

@@ -1,97 +1,92 @@
-// The input and output of the program, and how many commands it answered and refused.
+// A session: the lines of the input, and the replies to them.
 ghost use Rattle.std.specs.Prelude.{◌≡◌, IfOk, IfErr};
 ghost use Rattle.std.specs.IoError.{error_kind};
 ghost use Rattle.std.specs.declared.io.ErrorKind.TheVariants.{OutOfMemory};
+ghost use Rattle.planner.specs.Input.{Advances};
 
-use faults::Fault;
+use crate::buffers::Buffers;
+use crate::command::Command;
+use crate::replies::Replies;
+use model::model::Model;
 use std::alloc::Global;
 use std::io;
-use std::io::{BufRead, BufReader, BufWriter, Read, Write};
+use std::io::{BufRead, BufReader, Chain, Read, Split, Write};
 
-// A line without its line end, which may be that of another system.
-fn without_end(line: &[u8]) -> &[u8] {
-    match line {
-        [text @ .., b'\r', b'\n'] => text,
-        [text @ .., b'\n'] => text,
-        _ => line,
-    }
+// A line without what stands before its end on another system.
+fn without_return(line: &[u8]) -> &[u8] {
+    line.strip_suffix(b"\r").unwrap_or(line)
 }
 
 #[derive(Drop)]
 pub struct Session<I: Read + Drop, O: Write + Drop> {
     heap: Global,
-    input: BufReader<I>,
-    out: BufWriter<O>,
-    line: Vec<u8>,
-    commands: u64,
-    refused: u64,
+    lines: Split<BufReader<Chain<I, &'static [u8]>>>,
+    replies: Replies<O>,
 }
 
 impl<I: Read + Drop, O: Write + Drop> Session<I, O> {
     // Out of memory is the only error; the two streams are then dropped.
     pub fn new(heap: Global, input: I, output: O) -> io::Result<Session<I, O>>
-        ensures begun { IfOk result (λ s. (s.commands ≡ 0) × (s.refused ≡ 0)) }
+        ensures begun { IfOk result (λ s. (s.replies.commands ≡ 0) × (s.replies.refused ≡ 0)) }
         ensures err { IfErr result (λ e. error_kind e ≡ OutOfMemory) }
     {
+        // One more line end, so that a last line without one keeps its return. Else it comes to a blank line, which is no command.
+        let ended = input.chain(&b"\r\n"[..]);
         Ok(Session {
             heap,
-            input: BufReader::new(heap, input)?,
-            out: BufWriter::new(heap, output)?,
-            line: Vec::new(heap),
-            commands: 0,
-            refused: 0,
+            lines: BufReader::new(heap, ended)?.split(heap, b'\n'),
+            replies: Replies::new(heap, output)?,
         })
     }
 
-    pub fn heap(&self) -> Global {
-        self.heap
+    // Answers commands over a model, or over none, until a file is to be loaded, and gives its path; none at the end of the input.
+    pub fn serve(&mut self, model: Option<&Model>) -> io::Result<Option<String>>
+        ensures { Advances self.old.lines self.new.lines result }
+    {
+        while let Some(line) = self.lines.next() {
+            let line = line?;
+            // Bytes that are no text show as the sign for that.
+            let text = String::from_utf8_lossy(self.heap, without_return(&line))?;
+            match Command::of(text.as_str()) {
+                Command::Nothing => {}
+                Command::Load(path) => {
+                    self.replies.count();
+                    return Ok(Some(String::from_str(self.heap, path)?));
+                }
+                command => {
+                    self.replies.count();
+                    self.replies.answer(model, command, text.as_str())?;
+                }
+            }
+        }
+        Ok(None)
     }
 
-    // Reads the next line, and says whether there was one.
-    pub fn next_line(&mut self) -> io::Result<bool> {
-        self.line.clear();
-        let count = self.input.read_until(b'\n', &mut self.line)?;
-        Ok(count > 0)
+    // Serves over the model of a file, or over none where it is refused.
+    pub fn serve_file(&mut self, file: &[u8]) -> io::Result<Option<String>>
+        ensures { Advances self.old.lines self.new.lines result }
+    {
+        let mut buffers = Buffers::for_file(self.heap, file.len())?;
+        match buffers.load(file) {
+            Ok(model) => {
+                self.replies.say("loaded ", model.sizes())?;
+                self.serve(Some(&model))
+            }
+            Err(fault) => {
+                self.replies.refuse(fault)?;
+                self.serve(None)
+            }
+        }
     }
 
-    // The line read last, without its end. Bytes that are no text show as the sign for that.
-    pub fn text(&self) -> io::Result<String> {
-        Ok(String::from_utf8_lossy(self.heap, without_end(self.line.as_slice()))?)
+    pub fn serve_missing(&mut self, path: &str) -> io::Result<Option<String>>
+        ensures { Advances self.old.lines self.new.lines result }
+    {
+        self.replies.say("cannot read ", path)?;
+        self.serve(None)
     }
 
-    pub fn count(&mut self) {
-        self.commands = self.commands.saturating_add(1);
-    }
-
-    pub fn say(&mut self, text: &str) -> io::Result<()> {
-        writeln!(self.out, "{text}")
-    }
-
-    pub fn say_of(&mut self, text: &str, what: &str) -> io::Result<()> {
-        writeln!(self.out, "{text}{what}")
-    }
-
-    pub fn say_number(&mut self, text: &str, number: i64) -> io::Result<()> {
-        writeln!(self.out, "{text}{number}")
-    }
-
-    pub fn say_sizes(&mut self, conditions: u8, moves: u8, discount: u16) -> io::Result<()> {
-        writeln!(
-            self.out,
-            "loaded conditions {conditions} moves {moves} discount {discount}"
-        )
-    }
-
-    pub fn refuse(&mut self, fault: Fault) -> io::Result<()> {
-        self.refused = self.refused.saturating_add(1);
-        writeln!(self.out, "{fault}")
-    }
-
-    // The closing line.
-    pub fn close(mut self) -> io::Result<()> {
-        let commands = self.commands;
-        let refused = self.refused;
-        writeln!(self.out, "done commands {commands} refused {refused}")?;
-        self.out.flush()
+    pub fn close(self) -> io::Result<()> {
+        self.replies.close()
     }
 }

@@ -1,3 +1,4 @@
 pub mod Multiples
 pub mod Quotients
+pub mod Ceilings
 pub mod Mixes

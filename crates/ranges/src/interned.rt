@@ -27,7 +27,7 @@ impl Interned for Ends {
     ghost reflexive = { Prim.search rules };
 
     fn same(self, other: Ends) -> bool {
-        self.low == other.low && self.high == other.high
+        self == other
     }
 
     fn digest(self) -> u64 {
@@ -47,7 +47,7 @@ impl Interned for Advice {
     ghost reflexive = { Prim.search rules };
 
     fn same(self, other: Advice) -> bool {
-        self.chosen == other.chosen && self.ends.same(other.ends)
+        self == other
     }
 
     fn digest(self) -> u64 {

@@ -3,7 +3,8 @@ ghost use Rattle.std.specs.Prelude.{◌≡◌, ◌*◌, ◌^◌, ◌≤◌, pos,
 ghost use Rattle.ranges.specs.Whole.{◌·◌};
 ghost use Rattle.ranges.specs.Ranges.{mixed};
 
-// The product, where it is small.
+// Numbers within ±2^41 by clauses: a type for them would ask more of who has numbers.
+// The product, where it is small. Apart from the multiple, since the search finds no proof of both in one.
 fn product(k: u16, z: i64) -> i64
     requires low { neg_ℤ (pos (k * 2 ^ 41)) ≤ℤ (pos k *ℤ z) }
     requires high { (pos k *ℤ z) ≤ℤ pos (k * 2 ^ 41) }

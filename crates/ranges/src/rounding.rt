@@ -1,9 +1,10 @@
 // Quotients rounded down and up, right below zero too.
-ghost use Rattle.std.specs.Prelude.{◌≡◌, ◌-◌, ◌^◌, ◌<◌, pos, negsuc, ◌+ℤ◌, neg_ℤ, ◌≤ℤ◌, ◌<ℤ◌};
+ghost use Rattle.std.specs.Prelude.{◌≡◌, ◌-◌, ◌^◌, ◌<◌, pos, ◌+ℤ◌, ◌≤ℤ◌, ◌<ℤ◌};
 ghost use Rattle.std.specs.Int.{int_div_euclid};
 ghost use Rattle.ranges.specs.Whole.{◌·◌, floor, ceiling};
 
 // The Euclidean quotient, which by a divisor above zero is the floor.
+// Each caller writes its divisor out: a NonZeroU32 would first have to be made of it, by a step that can fail.
 fn quotient(z: i64, d: u32) -> i64
     requires { 0 < d }
     ensures { result ≡ int_div_euclid z (pos d) }
@@ -20,29 +21,20 @@ pub fn floor_of(z: i64, d: u32) -> i64
     quotient(z, d)
 }
 
-fn opposite(z: i64) -> i64
-    requires { negsuc (2 ^ 63 - 1) <ℤ z }
-    ensures { result ≡ neg_ℤ z }
+// One more, where something is left over.
+fn raised(floor: i64, rest: i64) -> i64
+    requires { (rest ≡ pos 0 → ⊥) → floor <ℤ pos (2 ^ 63 - 1) }
+    ensures exact { rest ≡ pos 0 → result ≡ floor }
+    ensures over { (rest ≡ pos 0 → ⊥) → result ≡ floor +ℤ pos 1 }
 {
-    -z
+    if rest == 0 { floor } else { floor + 1 }
 }
 
-// To round up is to round the opposite down.
-fn opposite_floor(z: i64, d: u32) -> i64
-    requires some { 0 < d }
-    requires negatable { negsuc (2 ^ 63 - 1) <ℤ z }
-    ensures { result ≡ ceiling d z }
-{
-    opposite(floor_of(opposite(z), d))
-}
-
-// The least i64 has no negation.
 pub fn ceiling_of(z: i64, d: u32) -> i64
-    requires some { 0 < d }
-    requires negatable { negsuc (2 ^ 63 - 1) <ℤ z }
+    requires { 0 < d }
     ensures value { result ≡ ceiling d z }
     ensures above { z ≤ℤ (d · result) }
     ensures next { (d · result) <ℤ (z +ℤ pos d) }
 {
-    opposite_floor(z, d)
+    raised(floor_of(z, d), z.rem_euclid(i64::from(d)))
 }

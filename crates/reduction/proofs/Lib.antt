@@ -3,8 +3,6 @@ pub mod Levels
 pub mod Growth
 pub mod Walked
 pub mod Once
-pub mod Hashes
-pub mod Pushes
 pub mod Again
 pub mod Standing
 pub mod Following

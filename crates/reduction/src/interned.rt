@@ -1,13 +1,13 @@
 // What is listed once: kinds of leaf, and nodes. A kind shows when two of it are the same.
 ghost use Rattle.std.specs.Prelude.{◌≡◌, ℕ, Bool, true, pos, nat_eq, unsigned_abs};
 ghost use Rattle.diagram.specs.Lawful.{blank as no_node};
-ghost use Rattle.reduction.specs.Walk.{same_condition, same_node, node_digest};
+ghost use Rattle.reduction.specs.Walk.{same_node, node_digest};
 ghost use Rattle.reduction.specs.Listed.{same_whole};
 ghost use Rattle.std.proofs.Common.{rules};
 
-use diagram::conditions::Condition;
 use diagram::nodes::Node;
 
+// An impl for each number: one for all of them would need a macro, and the gate takes no impl that a macro of ours writes.
 pub trait Interned: Copy {
     ghost equal: { Self → Self → Bool };
 
@@ -17,9 +17,11 @@ pub trait Interned: Copy {
     // What stands past the end of a list: nothing reads it.
     ghost blank: { Self };
 
+    // By the derived `==`, tied here to the definition that the contracts cite.
     fn same(self, other: Self) -> bool
         ensures { result ≡ equal self other };
 
+    // One number, as an index of lent numbers needs: `Hash` would want a hasher for each look.
     fn digest(self) -> u64
         ensures { result ≡ digested self };
 
@@ -49,6 +51,27 @@ impl Interned for u16 {
     }
 }
 
+// A figure of three leaves.
+impl Interned for u64 {
+    ghost equal = { nat_eq };
+
+    ghost digested = { λ x. x };
+
+    ghost blank = { 0 };
+
+    ghost means = { Prim.search rules };
+
+    ghost reflexive = { Prim.search rules };
+
+    fn same(self, other: u64) -> bool {
+        self == other
+    }
+
+    fn digest(self) -> u64 {
+        self
+    }
+}
+
 // A reward.
 impl Interned for i64 {
     ghost equal = { same_whole };
@@ -71,7 +94,7 @@ impl Interned for i64 {
 }
 
 // What is given where nothing is asked for.
-#[derive(Clone, Copy)]
+#[derive(Clone, Copy, PartialEq, Eq, Debug)]
 pub struct Nothing;
 
 impl Interned for Nothing {
@@ -85,8 +108,8 @@ impl Interned for Nothing {
 
     ghost reflexive = { Prim.search rules };
 
-    fn same(self, _: Nothing) -> bool {
-        true
+    fn same(self, other: Nothing) -> bool {
+        self == other
     }
 
     fn digest(self) -> u64 {
@@ -106,22 +129,10 @@ impl Interned for Node {
     ghost reflexive = { Prim.search rules };
 
     fn same(self, other: Node) -> bool {
-        same_condition(self.condition, other.condition)
-            && self.one == other.one
-            && self.zero == other.zero
+        self == other
     }
 
     fn digest(self) -> u64 {
         self.one as u64 * 2654435761 + self.zero as u64 * 40503 + self.condition.number() as u64
-    }
-}
-
-fn same_condition(x: Condition, y: Condition) -> bool
-    ensures { result ≡ same_condition x y }
-{
-    match (x, y) {
-        (Condition::Before(a), Condition::Before(b)) => a.0 == b.0,
-        (Condition::After(a), Condition::After(b)) => a.0 == b.0,
-        _ => false,
     }
 }

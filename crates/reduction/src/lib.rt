@@ -7,7 +7,6 @@ ghost use Rattle.reduction.specs.Mapped.{MappingNeverGrows};
 use crate::interned::Interned;
 
 pub mod interned;
-pub mod unique;
 
 // A reduced table is lawful, reads back its function, lists each thing once, and its function walked again adds nothing.
 pub fn tables_read_back<L: Interned>()
@@ -15,6 +14,7 @@ pub fn tables_read_back<L: Interned>()
 {}
 
 // Functions are equal exactly when their reduced tables are.
+#[tactic(auto, using(crate::proofs::Once::canonical))]
 pub fn tables_are_canonical<L: Interned>()
     ensures { TablesAreCanonical L.Interned.equal }
 {}

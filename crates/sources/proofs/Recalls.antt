@@ -1,11 +1,10 @@
 -- What a memo recalls is an entry of its stamp for the same three references.
-use Rattle.std.proofs.Common.{◌≡◌, ℕ, ◌<◌, ◌≤◌, true, List, length, set, Some, None, sym, ap, ◌∙◌, subst, ⊎_elim, arith, length-set, get_or-set_other, get_or-set_same}
+use Rattle.std.proofs.Common.{◌≡◌, ℕ, ◌<◌, true, List, length, Some, None, ◌∙◌, ⊎_elim, arith}
 use Rattle.std.proofs.lemmas.Nat.{mod_below}
-use Rattle.std.proofs.lemmas.Bool.{cond-true, cond-false, cases_Bool, cases_eq, and_parts, eqb-true}
-use Rattle.sources.specs.declared.memo.Entry.{Entry}
-use Rattle.sources.specs.declared.memo.Memo.{Memo}
+use Rattle.std.proofs.lemmas.Bool.{cond-true, cond-false, cases_Bool, and_parts, eqb-true}
+use Rattle.sources.specs.declared.entry.Entry.{Entry}
 use Rattle.sources.specs.declared.spot.Spot.{Spot}
-use Rattle.sources.specs.Memos.{none, slot, same_spot, entry_at, remembered, recalled, Stamped, Carried}
+use Rattle.sources.specs.Memos.{slot, same_spot, entry_at, remembered, recalled}
 
 pub slot_below : (at : Spot) (places : ℕ) → 0 < places → slot at places < places
 slot_below at places some = mod_below _ places some
@@ -40,16 +39,3 @@ recall_means es stamp at r e =
     let z : ◌≡◌ {A = ℕ} 0 1 = cc in
     absurd (omega arith))
     (cases_Bool (remembered es stamp at))
-
-pub carried_on : (m m' m'' : Memo) → Carried m m' → Carried m' m'' → Carried m m''
-carried_on m m' m'' p q = record { stamp = q.stamp ∙ p.stamp; long = q.long ∙ p.long; lent = q.lent ∙ p.lent }
-
-pub stamped_set : (es : List Entry) (i stamp : ℕ) (e : Entry) → e.stamp ≤ stamp → Stamped es stamp → Stamped (set es i e) stamp
-stamped_set es i stamp e small old j l =
-    let long = length-set es i e in
-    ⊎_elim
-    (λ same_place.
-    let within : i < length es = omega arith in
-    subst (λ x. x.stamp ≤ stamp) (sym (ap (entry_at (set es i e)) same_place ∙ get_or-set_same es i e none within)) small)
-    (λ other. subst (λ x. x.stamp ≤ stamp) (sym (get_or-set_other es i j e none other)) (old j (omega arith)))
-    (cases_eq j i)

@@ -1,5 +1,5 @@
 -- A lawful table over states gives each state its leaf, read over the conditions before a move or over those after it.
-use Rattle.std.proofs.Common.{◌≡◌, ℕ, suc, ◌+◌, ◌-◌, ◌<◌, ◌≤◌, Bool, true, cond, ◌&&◌, leb, List, [], ◌∷◌, ◌++◌, length, get_or, sym, refl, ap, ◌∙◌, ⊎_elim, add-zero, add-suc, arith, length-append}
+use Rattle.std.proofs.Common.{◌≡◌, ℕ, suc, ◌+◌, ◌-◌, ◌<◌, ◌≤◌, Bool, true, cond, ◌&&◌, leb, List, [], ◌∷◌, ◌++◌, length, get_or, sym, refl, ap, ◌∙◌, subst, ⊎_elim, add-zero, add-suc, arith, length-append}
 use Rattle.std.proofs.lemmas.Bool.{cond-false, cases_lt, cases_eq, and_parts, and_left, lt-leb, eq-eqb, ne_eqb, false≢true}
 use Rattle.diagram.specs.declared.conditions.Condition.{Condition}
 use Rattle.diagram.specs.declared.conditions.Condition.TheVariants.{Before, After}
@@ -12,6 +12,7 @@ use Rattle.diagram.proofs.Bits.{length_bits}
 use Rattle.diagram.proofs.Steps.{reach_skip, leaf_quiet, node_quiet}
 use Rattle.reduction.proofs.Growth.{node_within, descend_named, reach_ends}
 use Rattle.reduction.proofs.Levels.{states_both}
+use Rattle.sources.specs.Inputs.{Unfixed}
 use Rattle.sources.specs.Views.{StatesAreRead}
 use Rattle.sources.proofs.Seeing.{seen_before}
 
@@ -70,17 +71,17 @@ module _ (n leaves : ℕ) (ns : List Node) (lawful : Lawful (states n) leaves ns
 
 pub states_are_read : {X : Type 0} (blank : X) → StatesAreRead blank
 states_are_read blank n i r s lawful h free =
-    let ns = i.nodes.now in
-    let leaf : ℕ → _ = λ z. get_or i.leaves.now z blank in
+    let ns = i.table.nodes.now in
+    let leaf : ℕ → _ = λ z. get_or i.table.leaves.now z blank in
     record {
       before =
           λ at bs long.
           let all = length-append bs (bits_from 0 n s) in
           let bits = length_bits 0 n s in
-          ap leaf (ap (λ ds. reach i.offset ns 0 ds r) (seen_before i 0 (bs ++ bits_from 0 n s) (omega arith)) ∙ ap (λ o. reach o ns 0 (bs ++ bits_from 0 n s) r) at ∙ over_before n (length i.leaves.now) ns lawful bs s r long h);
+          ap leaf (ap (λ ds. reach i.offset ns 0 ds r) (seen_before i.fixed 0 (bs ++ bits_from 0 n s) (subst (Unfixed i.fixed) (omega arith) free)) ∙ ap (λ o. reach o ns 0 (bs ++ bits_from 0 n s) r) at ∙ over_before n (length i.table.leaves.now) ns lawful bs s r long h);
       after =
           λ at bs long.
           let all = length-append (bits_from 0 n s) bs in
           let bits = length_bits 0 n s in
-          ap leaf (ap (λ ds. reach i.offset ns 0 ds r) (seen_before i 0 (bits_from 0 n s ++ bs) (omega arith)) ∙ ap (λ o. reach o ns 0 (bits_from 0 n s ++ bs) r) at ∙ over_after n (length i.leaves.now) ns lawful bs s r h);
+          ap leaf (ap (λ ds. reach i.offset ns 0 ds r) (seen_before i.fixed 0 (bits_from 0 n s ++ bs) (subst (Unfixed i.fixed) (omega arith) free)) ∙ ap (λ o. reach o ns 0 (bits_from 0 n s ++ bs) r) at ∙ over_after n (length i.table.leaves.now) ns lawful bs s r h);
     }

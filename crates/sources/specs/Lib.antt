@@ -1,4 +1,5 @@
 pub mod Inputs
 pub mod Spots
 pub mod Memos
+pub mod Carried
 pub mod Views

@@ -6,11 +6,8 @@
 --     recalled es stamp at        the result that the memo holds for `at`, or none
 --     Stamped es stamp            no entry was made under a later stamp
 --     Unused es stamp             no entry was made under the stamp
---     Ready m                     the memo m has a slot, and no entry of a later stamp than its own
---     Carried m m'                m' is the memo m with other entries: the same stamp and the same lent list
-use Rattle.std.specs.Prelude.{◌≡◌, ℕ, ◌+◌, ◌*◌, ◌%◌, ◌<◌, ◌≤◌, Bool, cond, ◌&&◌, List, length, Some, None, Option, ◌==◌, ◌≢◌, slice_index_or}
-use Rattle.sources.specs.declared.memo.Entry.{Entry}
-use Rattle.sources.specs.declared.memo.Memo.{Memo}
+use Rattle.std.specs.Prelude.{ℕ, ◌+◌, ◌*◌, ◌%◌, ◌<◌, ◌≤◌, Bool, cond, ◌&&◌, List, length, Some, None, Option, ◌==◌, ◌≢◌, slice_index_or}
+use Rattle.sources.specs.declared.entry.Entry.{Entry}
 use Rattle.sources.specs.declared.spot.Spot.{Spot}
 
 abbrev pub slot : Spot → ℕ → ℕ
@@ -43,12 +40,3 @@ Stamped es stamp = (j : ℕ) → j < length es → (entry_at es j).stamp ≤ sta
 
 abbrev pub Unused : List Entry → ℕ → Type 0
 Unused es stamp = (j : ℕ) → j < length es → (entry_at es j).stamp ≢ stamp
-
-pub record Ready (m : Memo) : Type 0 where
-  pub some : 0 < length m.entries.now
-  pub stamped : Stamped m.entries.now m.stamp
-
-pub record Carried (m m' : Memo) : Type 0 where
-  pub stamp : m'.stamp ≡ m.stamp
-  pub long : length m'.entries.now ≡ length m.entries.now
-  pub lent : m'.entries.ghost_name ≡ m.entries.ghost_name

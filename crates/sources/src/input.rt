@@ -1,13 +1,18 @@
 // A diagram as one of those that are read together.
-use diagram::nodes::Node;
+use diagram::table::Table;
+
+// The bit that a diagram sees at one of the levels, whatever the bit there is.
+#[derive(Clone, Copy, PartialEq, Eq, Debug)]
+pub struct Fixed {
+    pub level: u16,
+    pub bit: bool,
+}
 
 // `offset` is the level of the before-condition 0: the number of conditions, or 0 to read a table over states over the after-conditions.
-// At the level `fixed` the diagram always sees the bit `bit`; where no level has that number, none is fixed.
+// A number, since the order is defined for any; two variants would allow less.
 #[derive_where(Clone, Copy)]
 pub struct Input<'a, L> {
-    pub leaves: &'a [L],
-    pub nodes: &'a [Node],
+    pub table: Table<'a, L>,
     pub offset: u8,
-    pub fixed: u16,
-    pub bit: bool,
+    pub fixed: Option<Fixed>,
 }

@@ -10,7 +10,7 @@ use Rattle.reduction.specs.Listed.{Same}
 use Rattle.reduction.specs.Walk.{Made, reduced}
 use Rattle.reduction.proofs.Once.{read_back}
 use Rattle.sources.specs.declared.input.Input.{Input}
-use Rattle.sources.specs.Inputs.{value, Named}
+use Rattle.sources.specs.Inputs.{value, Named, Unfixed}
 use Rattle.sources.specs.Views.{fixed_at}
 use Rattle.sources.proofs.Seeing.{seen_before, fixed_levels_are_set}
 use Rattle.sources.proofs.StatesRead.{states_are_read}
@@ -18,9 +18,9 @@ use Rattle.stages.specs.Parts.{over_states, over_after}
 
 module _ {X : Type 0} (blank : X) (n : ℕ) (i : Input X) (r : ℕ) where
   abbrev says : ℕ → X
-  says s = get_or i.leaves.now (leaf_of n i.nodes.now r s) blank
+  says s = get_or i.table.leaves.now (leaf_of n i.table.nodes.now r s) blank
 
-  module _ (lawful : Lawful (states n) (length i.leaves.now) i.nodes.now) (named : Named i r) (free : n + n ≤ i.fixed) (bs : List Bool) (long : length bs ≡ n + n) where
+  module _ (lawful : Lawful (states n) (length i.table.leaves.now) i.table.nodes.now) (named : Named i r) (free : Unfixed i.fixed (n + n)) (bs : List Bool) (long : length bs ≡ n + n) where
     pub reads_states : i.offset ≡ n → value blank i 0 bs r ≡ over_states n says bs
     reads_states at =
         let high : length (drop n bs) ≡ n = length-drop n bs ∙ omega arith in
@@ -38,14 +38,14 @@ module _ {X : Type 0} (blank : X) (n : ℕ) (i : Input X) (r : ℕ) where
         ap (λ cs. value blank i 0 cs r) (sym back) ∙ (states_are_read blank n i r s lawful named free).after at (drop n bs) high
 
 -- a reduced table in the lists of an input
-module _ {X : Type 0} (eq : X → X → Bool) (same : Same eq) (blank : X) (n : ℕ) (f : List Bool → X) (i : Input X) (r : ℕ) (is : reduced eq n f ≡ record { root = r; leaves = i.leaves.now; nodes = i.nodes.now })
-    (few : length i.leaves.now ≤ 65536) (at : i.offset ≡ n) (free : n + n ≤ i.fixed) where
+module _ {X : Type 0} (eq : X → X → Bool) (same : Same eq) (blank : X) (n : ℕ) (f : List Bool → X) (i : Input X) (r : ℕ) (is : reduced eq n f ≡ record { root = r; leaves = i.table.leaves.now; nodes = i.table.nodes.now })
+    (few : length i.table.leaves.now ≤ 65536) (at : i.offset ≡ n) (free : Unfixed i.fixed (n + n)) where
   pub reads_made : (bs : List Bool) → length bs ≡ n + n → value blank i 0 bs r ≡ f bs
   reads_made bs long =
       let small : length (reduced eq n f).leaves ≤ 65536 = subst (λ m. length m.leaves ≤ 65536) (sym is) few in
-      ap (λ cs. get_or i.leaves.now (reach i.offset i.nodes.now 0 cs r) blank) (seen_before i 0 bs (omega arith))
-      ∙ ap (λ o. get_or i.leaves.now (reach o i.nodes.now 0 bs r) blank) at
+      ap (λ cs. get_or i.table.leaves.now (reach i.offset i.table.nodes.now 0 cs r) blank) (seen_before i.fixed 0 bs (subst (Unfixed i.fixed) (omega arith) free))
+      ∙ ap (λ o. get_or i.table.leaves.now (reach o i.table.nodes.now 0 bs r) blank) at
       ∙ ap (λ (m : Made X). get_or m.leaves (reach n m.nodes 0 bs m.root) blank) (sym is) ∙ (read_back eq same n f small).reads bs long blank
 
   pub reads_fixed : (k : ℕ) (x : Bool) (bs : List Bool) → k < length bs → length bs ≡ n + n → value blank (fixed_at i k x) 0 bs r ≡ f (set bs k x)
-  reads_fixed k x bs less long = fixed_levels_are_set blank i k x bs r less (omega arith) ∙ reads_made (set bs k x) (length-set bs k x ∙ long)
+  reads_fixed k x bs less long = fixed_levels_are_set blank i k x bs r less (subst (Unfixed i.fixed) (sym long) free) ∙ reads_made (set bs k x) (length-set bs k x ∙ long)

@@ -7,4 +7,4 @@ use Rattle.planning.specs.Models.{Model as Plan}
 
 abbrev pub plan_of : Model → Plan
 plan_of x =
-    record { conditions = x.conditions; moves = x.moves; discount = x.discount; reward = reward_at x.conditions (lists_of x); chance = chance_at x.conditions (lists_of x) }
+    record { conditions = x.sizes.conditions; moves = x.sizes.moves; discount = x.sizes.discount; reward = reward_at x.sizes.conditions (lists_of x); chance = chance_at x.sizes.conditions (lists_of x) }

@@ -1,29 +1,24 @@
 -- The greatest over the levels from one on: a level that is tested parts it in two, and a level that none of the three references tests can be skipped.
-use Rattle.std.proofs.Common.{◌≡◌, ℕ, zero, suc, ◌+◌, ◌-◌, ◌<◌, ◌≤◌, max, Bool, true, false, List, ◌∷◌, get_or, refl, ap, ◌∙◌, arith}
-use Rattle.diagram.specs.Reads.{reach}
+use Rattle.std.proofs.Common.{◌≡◌, ℕ, zero, suc, ◌+◌, ◌-◌, ◌<◌, ◌≤◌, max, Bool, true, false, List, [], ◌∷◌, refl, ap, ◌∙◌, arith}
 use Rattle.sources.specs.declared.spot.Spot.{Spot}
 use Rattle.sources.specs.declared.three.Sources.{Sources}
-use Rattle.sources.specs.Spots.{levels, top, down, values}
-use Rattle.sources.proofs.Descents.{values_step, down_quiet}
+use Rattle.sources.specs.Spots.{levels, top, down}
+use Rattle.sources.proofs.Descents.{Descends, down_quiet}
 use Rattle.survey.specs.Greatest.{greatest}
 use Rattle.survey.specs.Surveyed.{greatest_from}
 use Rattle.survey.proofs.Greatests.{greatest_agree}
 
-module _ {A B C : Type 0} (S : Sources A B C) (give : A → B → C → ℕ) (a : A) (b : B) (c : C) where
-  abbrev f : ℕ → Spot → List Bool → ℕ
-  f = values give a b c S
+-- where no level is left, it is the figure of the three leaves
+pub at_leaves : {A B C : Type 0} (S : Sources A B C) (f : ℕ → Spot → List Bool → ℕ) (at : Spot) → greatest_from S (levels S) (f (levels S) at) ≡ f (levels S) at []
+unfolding greatest
+at_leaves S f at = let e : levels S - levels S ≡ 0 = omega arith in ap (λ L. greatest L (f (levels S) at)) e
 
+module _ {A B C : Type 0} {S : Sources A B C} {f : ℕ → Spot → List Bool → ℕ} (descends : Descends S f) where
   halved : (L k : ℕ) (at : Spot) → greatest (suc L) (f k at) ≡ max (greatest L (f (suc k) (down S k true at))) (greatest L (f (suc k) (down S k false at)))
   unfolding greatest
   halved L k at =
-      ap (λ z. max z (greatest L (λ bs. f k at (false ∷ bs)))) (greatest_agree L (λ bs. f k at (true ∷ bs)) (f (suc k) (down S k true at)) (λ bs long. values_step S give a b c k true at bs))
-      ∙ ap (max (greatest L (f (suc k) (down S k true at)))) (greatest_agree L (λ bs. f k at (false ∷ bs)) (f (suc k) (down S k false at)) (λ bs long. values_step S give a b c k false at bs))
-
-  -- where no level is left, it is the figure of the three leaves
-  pub at_leaves : (at : Spot) →
-      greatest_from S (levels S) (f (levels S) at) ≡ give (get_or S.first.leaves.now at.first a) (get_or S.second.leaves.now at.second b) (get_or S.third.leaves.now at.third c)
-  unfolding greatest reach
-  at_leaves at = let e : levels S - levels S ≡ 0 = omega arith in ap (λ L. greatest L (f (levels S) at)) e
+      ap (λ z. max z (greatest L (λ bs. f k at (false ∷ bs)))) (greatest_agree L (λ bs. f k at (true ∷ bs)) (f (suc k) (down S k true at)) (λ bs long. descends.step k true at bs))
+      ∙ ap (max (greatest L (f (suc k) (down S k true at)))) (greatest_agree L (λ bs. f k at (false ∷ bs)) (f (suc k) (down S k false at)) (λ bs long. descends.step k false at bs))
 
   pub at_node : (k : ℕ) (at : Spot) → k < levels S → greatest_from S k (f k at) ≡ max (greatest_from S (suc k) (f (suc k) (down S k true at))) (greatest_from S (suc k) (f (suc k) (down S k false at)))
   at_node k at less =

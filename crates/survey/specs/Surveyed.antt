@@ -3,7 +3,7 @@
 --     Passed S f best at            what is read from `at` has nothing above the best so far
 --     Surveyed S f es stamp best    so has every entry that was made under the stamp
 use Rattle.std.specs.Prelude.{◌≡◌, ℕ, ◌-◌, ◌<◌, ◌≤◌, Bool, List, length}
-use Rattle.sources.specs.declared.memo.Entry.{Entry}
+use Rattle.sources.specs.declared.entry.Entry.{Entry}
 use Rattle.sources.specs.declared.spot.Spot.{Spot}
 use Rattle.sources.specs.declared.three.Sources.{Sources}
 use Rattle.sources.specs.Memos.{entry_at}

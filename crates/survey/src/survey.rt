@@ -1,30 +1,15 @@
 // The survey: each combination of leaves that some state has is met, and what is known to hold nothing above the best is passed over.
-ghost use Rattle.std.specs.Prelude.{◌≡◌, ◌<◌, ◌≤◌, max, length};
-ghost use Rattle.sources.specs.Memos.{Ready, Carried};
-ghost use Rattle.sources.specs.Spots.{levels, top, AllNamed, AllReadable, Allowed, values};
+ghost use Rattle.std.specs.Prelude.{◌≡◌, ◌≤◌, max};
+ghost use Rattle.sources.specs.Carried.{Carried};
+ghost use Rattle.sources.specs.Spots.{roots, top, AllNamed, Allowed, values};
 ghost use Rattle.survey.specs.Greatest.{GreatestIsGreatest};
 ghost use Rattle.survey.specs.OverStates.{SurveysCoverStates};
 ghost use Rattle.survey.specs.Surveyed.{greatest_from, Surveyed};
 
-use crate::figure::Figure;
-use sources::memo::{Memo, is_remembered, remember, renew};
-use sources::reads::{down_from, leaf_at, top_of};
+use sources::combining::{Combining, combined_at};
+use sources::memo::Memo;
+use sources::reading::Reading;
 use sources::spot::Spot;
-use sources::three::Sources;
-
-// The figure of three leaves.
-fn figure_at<F: Figure>(figure: F, sources: Sources<F::First, F::Second, F::Third>, at: Spot) -> u64
-    requires readable { AllReadable sources }
-    requires allowed { Allowed (F.Figure.can figure) F.First.Interned.blank F.Second.Interned.blank F.Third.Interned.blank sources }
-    requires named { AllNamed sources at }
-    requires leaves { top sources at ≡ levels sources }
-    ensures { result ≡ greatest_from sources.entry (levels sources.entry) (values (F.Figure.size figure) F.First.Interned.blank F.Second.Interned.blank F.Third.Interned.blank sources.entry (levels sources.entry) at) }
-{
-    let first = leaf_at(sources.first.leaves, at.first);
-    let second = leaf_at(sources.second.leaves, at.second);
-    let third = leaf_at(sources.third.leaves, at.third);
-    figure.measure(first, second, third)
-}
 
 fn better_of(best: u64, figure: u64) -> u64
     ensures { result ≡ max best figure }
@@ -32,59 +17,51 @@ fn better_of(best: u64, figure: u64) -> u64
     best.max(figure)
 }
 
-// The best so far, or what is read from three references if it is more.
-fn visit<F: Figure>(
+// The best so far, or what is read from three references if it is more. `from` and `at` say where the walk stands.
+fn visit<F: Combining<Out = u64>>(
     figure: F,
-    sources: Sources<F::First, F::Second, F::Third>,
+    reading: Reading<F::First, F::Second, F::Third>,
     memo: &mut Memo,
     best: u64,
     from: u16,
     at: Spot,
 ) -> u64
-    requires readable { AllReadable sources }
-    requires allowed { Allowed (F.Figure.can figure) F.First.Interned.blank F.Second.Interned.blank F.Third.Interned.blank sources }
-    requires named { AllNamed sources at }
-    requires above { from ≤ top sources at }
-    requires ready { Ready memo.old }
-    requires surveyed { Surveyed sources (values (F.Figure.size figure) F.First.Interned.blank F.Second.Interned.blank F.Third.Interned.blank sources) memo.old.entries.now memo.old.stamp best }
-    ensures greatest { result ≡ max best (greatest_from sources.entry from (values (F.Figure.size figure) F.First.Interned.blank F.Second.Interned.blank F.Third.Interned.blank sources.entry from at)) }
-    ensures surveyed { Surveyed sources.entry (values (F.Figure.size figure) F.First.Interned.blank F.Second.Interned.blank F.Third.Interned.blank sources.entry) memo.new.entries.now memo.new.stamp result }
-    ensures ready { Ready memo.new }
+    requires allowed { Allowed (F.Combining.can figure) F.First.Interned.blank F.Second.Interned.blank F.Third.Interned.blank reading.sources }
+    requires named { AllNamed reading.sources at }
+    requires above { from ≤ top reading.sources at }
+    requires surveyed { Surveyed reading.sources (values (F.Combining.meaning figure) F.First.Interned.blank F.Second.Interned.blank F.Third.Interned.blank reading.sources) memo.old.entries.now memo.old.stamp best }
+    ensures greatest { result ≡ max best (greatest_from reading.entry.sources from (values (F.Combining.meaning figure) F.First.Interned.blank F.Second.Interned.blank F.Third.Interned.blank reading.entry.sources from at)) }
+    ensures surveyed { Surveyed reading.entry.sources (values (F.Combining.meaning figure) F.First.Interned.blank F.Second.Interned.blank F.Third.Interned.blank reading.entry.sources) memo.new.entries.now memo.new.stamp result }
     ensures carried { Carried memo.old memo.new }
 {
-    memo.visits = memo.visits.saturating_add(1);
-    let level = top_of(sources, at);
-    if level == sources.conditions as u16 * 2 {
-        return better_of(best, figure_at(figure, sources, at));
+    memo.count_visit();
+    let level = reading.sources.top_of(at);
+    if level == reading.sources.levels() {
+        return better_of(best, combined_at(figure, reading, at));
     }
-    if is_remembered(memo, at) {
+    if memo.is_remembered(at) {
         return best;
     }
     let next = level + 1;
-    let one = down_from(sources, level, true, at);
-    let better = visit(figure, sources, memo, best, next, one);
-    let zero = down_from(sources, level, false, at);
-    let most = visit(figure, sources, memo, better, next, zero);
-    remember(memo, at, 0);
+    let ahead = reading.sources.branches_from(level, at);
+    let better = visit(figure, reading, memo, best, next, ahead.one);
+    let most = visit(figure, reading, memo, better, next, ahead.zero);
+    // That the triple was met is all that is looked up, so the result is no matter.
+    memo.remember(at, 0);
     most
 }
 
 // The greatest of a figure over all that three diagrams say together.
-pub fn survey<F: Figure>(
+pub fn survey<F: Combining<Out = u64>>(
     figure: F,
-    sources: Sources<F::First, F::Second, F::Third>,
+    reading: Reading<F::First, F::Second, F::Third>,
     memo: &mut Memo,
-    roots: Spot,
 ) -> u64
-    requires readable { AllReadable sources }
-    requires allowed { Allowed (F.Figure.can figure) F.First.Interned.blank F.Second.Interned.blank F.Third.Interned.blank sources }
-    requires named { AllNamed sources roots }
-    requires ready { Ready memo.old }
-    ensures greatest { result ≡ greatest_from sources.entry 0 (values (F.Figure.size figure) F.First.Interned.blank F.Second.Interned.blank F.Third.Interned.blank sources.entry 0 roots) }
-    ensures ready { Ready memo.new }
+    requires { Allowed (F.Combining.can figure) F.First.Interned.blank F.Second.Interned.blank F.Third.Interned.blank reading.sources }
+    ensures { result ≡ greatest_from reading.entry.sources 0 (values (F.Combining.meaning figure) F.First.Interned.blank F.Second.Interned.blank F.Third.Interned.blank reading.entry.sources 0 (roots reading.entry.sources)) }
 {
-    renew(memo);
-    visit(figure, sources, memo, 0, 0, roots)
+    memo.renew();
+    visit(figure, reading, memo, 0, 0, reading.sources.roots())
 }
 
 // The greatest value is no less than any, and is met.

@@ -8,7 +8,8 @@ use Rattle.diagram.specs.declared.nodes.Node.{Node}
 use Rattle.diagram.specs.First.{HoldsBelow}
 use Rattle.diagram.specs.Lawful.{names, node_is_lawful}
 use Rattle.tables.specs.declared.lawful.Extent.{Extent}
-use Rattle.tables.specs.Tables.{leaf_is_within, lawful_table, LawfulTable}
+use Rattle.tables.specs.Within.{leaf_is_within}
+use Rattle.tables.specs.Tables.{lawful_table, LawfulTable}
 use Rattle.tables.proofs.Below.{decides_below}
 
 -- a test tells that it holds

@@ -1,4 +1,2 @@
 pub mod Below
 pub mod Decided
-pub mod NoAfter
-pub mod Plain

@@ -1,3 +1,4 @@
 pub mod Limits
+pub mod Within
 pub mod Tables
 pub mod OverStates

@@ -1,10 +1,19 @@
 -- The limits of leaves.
+--     reward_within z       a reward may be z
+--     chance_within c       a chance, in ten-thousandths, may be c
 --     within limit z        z lies within ±limit
 --     ends_within limit e   the low end of e is not above the high one, and both lie within ±limit
 --     LimitsArePlain        what the two tests say in plain facts
-use Rattle.std.specs.Prelude.{ℕ, Bool, ◌&&◌, ℤ, pos, neg_ℤ, ◌≤ℤ◌, Decides, int_le, nat_le, unsigned_abs}
+use Rattle.std.specs.Prelude.{ℕ, Bool, ◌&&◌, ℤ, pos, negsuc, neg_ℤ, ◌≤ℤ◌, Decides, int_le, nat_le, unsigned_abs}
 use Rattle.ranges.specs.declared.ends.Ends.{Ends}
 use Rattle.ranges.specs.Ranges.{Ordered, Inside}
+
+-- from -2^32 to 2^32
+abbrev pub reward_within : ℤ → Bool
+reward_within z = int_le (negsuc 4294967295) z && int_le z (pos 4294967296)
+
+abbrev pub chance_within : ℕ → Bool
+chance_within c = nat_le c 10000
 
 abbrev pub within : ℕ → ℤ → Bool
 within limit z = nat_le (unsigned_abs z) limit

@@ -1,21 +1,18 @@
 -- When a table is lawful: the counted leaves and nodes of two lists, and a root.
 --     all_below p n                           p holds at each number below n
---     leaf_is_within within blank leaves k    leaf k is within its limits; blank stands past the end of a list of leaves
 --     lawful_table                            the test of a table over a domain: the counts fit the lists, the root names something, each counted leaf is within its limits and each counted node is lawful
 --     LawfulTable                             the same in plain facts
-use Rattle.std.specs.Prelude.{◌≡◌, ℕ, zero, suc, ◌≤◌, Bool, true, ◌&&◌, List, length, take, nat_le, slice_index_or}
+use Rattle.std.specs.Prelude.{◌≡◌, ℕ, zero, suc, ◌≤◌, Bool, true, ◌&&◌, List, length, take, nat_le}
 use Rattle.diagram.specs.declared.conditions.Domain.{Domain}
 use Rattle.diagram.specs.declared.nodes.Node.{Node}
 use Rattle.diagram.specs.First.{HoldsBelow}
 use Rattle.diagram.specs.Lawful.{names, node_is_lawful, Lawful}
 use Rattle.tables.specs.declared.lawful.Extent.{Extent}
+use Rattle.tables.specs.Within.{leaf_is_within}
 
 abbrev pub all_below : (ℕ → Bool) → ℕ → Bool
 all_below p zero = true
 all_below p (suc n) = p n && all_below p n
-
-abbrev pub leaf_is_within : {X : Type 0} → (X → Bool) → X → List X → ℕ → Bool
-leaf_is_within within blank leaves k = within (slice_index_or leaves k blank)
 
 abbrev pub lawful_table : {X : Type 0} → (X → Bool) → X → Domain → List X → List Node → Extent → Bool
 lawful_table within blank d leaves nodes x =

@@ -3,6 +3,7 @@
 
 pub mod lawful;
 pub mod limits;
+pub mod outside;
 pub mod over_states;
 
 #[cfg(test)]

@@ -1,6 +1,6 @@
 // What a leaf may be: limits on rewards, chances, values and gathered advice.
 ghost use Rattle.std.specs.Prelude.{◌≡◌, ◌+◌, ◌^◌, Bool, ◌&&◌, nat_le, nat_lt};
-ghost use Rattle.tables.specs.Limits.{within as lies_within, ends_within, LimitsArePlain};
+ghost use Rattle.tables.specs.Limits.{reward_within, chance_within, within as lies_within, ends_within, LimitsArePlain};
 
 use ranges::ends::{Advice, Ends};
 use reduction::interned::Interned;
@@ -40,7 +40,7 @@ pub struct ChanceLimits;
 impl Limits for ChanceLimits {
     type Leaf = u16;
 
-    ghost within = { λ _ chance. nat_le chance 10000 };
+    ghost within = { λ _ chance. chance_within chance };
 
     fn allows(self, leaf: u16) -> bool {
         leaf <= WHOLE
@@ -53,7 +53,7 @@ pub struct RewardLimits;
 impl Limits for RewardLimits {
     type Leaf = i64;
 
-    ghost within = { λ _ reward. lies_within (2 ^ 32) reward };
+    ghost within = { λ _ reward. reward_within reward };
 
     fn allows(self, leaf: i64) -> bool {
         lies_within(MOST_REWARD, leaf)

@@ -2,27 +2,26 @@
 ghost use Rattle.model.specs.Models.{blank_lists, IsModel};
 
 use crate::model::Model;
-
-static REWARDS: [i64; 1] = [0];
-
-static CHANCES: [u16; 1] = [0];
-
-static ROOTS: [u32; 2] = [0, 0];
+use crate::model::held::Held;
+use model_file::sizes::Sizes;
 
 impl<'a> Model<'a> {
-    // One condition, one move, discount one half, every reward and chance 0.
+    // One condition, one move, discount one half, every reward and chance 0. A name, not `Default`: no model is the usual one.
     pub fn blank() -> Model<'a>
-        ensures { IsModel 1 1 5000 blank_lists result }
+        ensures { IsModel (record { conditions = 1; moves = 1; discount = 5000 }) blank_lists result }
     {
-        Model {
+        let sizes = Sizes {
             conditions: 1,
             moves: 1,
             discount: 5000,
-            rewards: &REWARDS,
-            chances: &CHANCES,
+        };
+        let lists = Held {
+            rewards: &[0],
+            chances: &[0],
             reward_nodes: &[],
             chance_nodes: &[],
-            roots: &ROOTS,
-        }
+            roots: &[0, 0],
+        };
+        Model { sizes, lists }
     }
 }

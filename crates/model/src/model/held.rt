@@ -1,10 +1,10 @@
 // The lists that a model holds.
 ghost use Rattle.std.specs.Prelude.{◌≡◌};
-ghost use Rattle.model_file.specs.Reading.{five};
-ghost use Rattle.model.specs.Models.{lists_of};
+ghost use Rattle.model_file.specs.Lists.{held};
+ghost use Rattle.model.specs.Held.{lists_in};
 
-use crate::model::Model;
 use diagram::nodes::Node;
+use model_file::lists::Lists;
 
 #[derive(Clone, Copy)]
 pub struct Held<'a> {
@@ -15,16 +15,16 @@ pub struct Held<'a> {
     pub roots: &'a [u32],
 }
 
-impl<'a> Model<'a> {
-    pub fn lists(&self) -> Held<'a>
-        ensures { five result.rewards.now result.chances.now result.reward_nodes.now result.chance_nodes.now result.roots.now ≡ lists_of self.now }
-    {
+impl<'a> From<&'a Lists<'_>> for Held<'a> {
+    ghost from_gives = { λ lists result. lists_in result ≡ held lists.now };
+
+    fn from(lists: &'a Lists<'_>) -> Held<'a> {
         Held {
-            rewards: self.rewards,
-            chances: self.chances,
-            reward_nodes: self.reward_nodes,
-            chance_nodes: self.chance_nodes,
-            roots: self.roots,
+            rewards: lists.rewards,
+            chances: lists.chances,
+            reward_nodes: lists.reward_nodes,
+            chance_nodes: lists.chance_nodes,
+            roots: lists.roots,
         }
     }
 }

@@ -5,21 +5,22 @@ ghost use Rattle.model.specs.Models.{lists_of};
 use crate::model::Model;
 use crate::model::state::state_exists;
 use diagram::look::look;
+use diagram::table::Table;
 use faults::{CallFault, Fault};
 
 impl Model<'_> {
     pub fn reward(&self, state: u64) -> Result<i64, Fault>
-        ensures { Told (is_state self.now.conditions state) (reward_at self.now.conditions (lists_of self.now) state) result }
+        ensures { Told (is_state self.now.sizes.conditions state) (reward_at self.now.sizes.conditions (lists_of self.now) state) result }
     {
-        if !state_exists(self.conditions, state) {
-            return Err(Fault::Call(CallFault::OutOfRange));
+        let conditions = self.sizes.conditions;
+        if !state_exists(conditions, state) {
+            return Err(CallFault::OutOfRange.into());
         }
-        Ok(look(
-            self.conditions,
-            self.rewards,
-            self.reward_nodes,
-            self.roots[0],
-            state,
-        ))
+        let table = Table {
+            leaves: self.lists.rewards,
+            nodes: self.lists.reward_nodes,
+            root: self.lists.roots[0],
+        };
+        Ok(look(conditions, table, state))
     }
 }

@@ -1,108 +1,123 @@
 // The tests of a model, a list at a time: each accepts, or gives the first fault.
-ghost use Rattle.std.specs.Prelude.{◌≡◌, length};
+ghost use Rattle.std.specs.Prelude.{◌≡◌, length, slice_index};
 ghost use Rattle.diagram.specs.First.{FirstFailing};
 ghost use Rattle.faults.specs.Tests.{Verdict};
-ghost use Rattle.model_file.specs.Reading.{five};
+ghost use Rattle.model_file.specs.Tags.{code};
 ghost use Rattle.model.specs.Checking.{size_tests, limit_tests, node_tests, is_named, root_tests, model_tests};
+ghost use Rattle.model.specs.Held.{lists_in};
 
-use crate::model::limits::{Limited, first_outside};
+use crate::model::held::Held;
 use diagram::conditions::Domain;
-use diagram::lawful::{first_unlawful, names_something};
+use diagram::lawful::{NodeList, names_something};
 use diagram::nodes::Node;
 use faults::ModelFault;
+use model_file::sizes::Sizes;
+use model_file::tag::Tag;
+use tables::limits::{ChanceLimits, Limits, RewardLimits};
+use tables::outside::first_outside;
 
-fn check_sizes(conditions: u8, moves: u8, discount: u16) -> Result<(), ModelFault>
-    ensures { Verdict (size_tests conditions moves discount) result }
+fn check_sizes(sizes: Sizes) -> Result<(), ModelFault>
+    ensures { Verdict (size_tests sizes.conditions sizes.moves sizes.discount) result }
 {
-    if conditions < 1 || 24 < conditions {
-        return Err(ModelFault::OutsideLimits { tag: 1, entry: 0 });
+    let Sizes {
+        conditions,
+        moves,
+        discount,
+    } = sizes;
+    let tag = Tag::Sizes.into();
+    if !(1..=24).contains(&conditions) {
+        return Err(ModelFault::OutsideLimits { tag, entry: 0 });
     }
-    if moves < 1 || 16 < moves {
-        return Err(ModelFault::OutsideLimits { tag: 1, entry: 1 });
+    if !(1..=16).contains(&moves) {
+        return Err(ModelFault::OutsideLimits { tag, entry: 1 });
     }
-    if discount < 1 || 9999 < discount {
-        return Err(ModelFault::OutsideLimits { tag: 1, entry: 2 });
+    if !(1..=9999).contains(&discount) {
+        return Err(ModelFault::OutsideLimits { tag, entry: 2 });
     }
     Ok(())
 }
 
-fn check_limits<L: Limited>(tag: u8, list: &[L]) -> Result<(), ModelFault>
-    ensures { Verdict (limit_tests tag L.Limited.within L.Limited.blank list.now) result }
+fn check_limits<K: Limits>(limits: K, tag: Tag, list: &[K::Leaf]) -> Result<(), ModelFault>
+    ensures { Verdict (limit_tests (code tag) (K.Limits.within limits) K.Leaf.Interned.blank list.now) result }
 {
-    match first_outside(list) {
-        Some(entry) => Err(ModelFault::OutsideLimits { tag, entry }),
+    match first_outside(limits, list) {
+        Some(entry) => Err(ModelFault::OutsideLimits {
+            tag: tag.into(),
+            entry,
+        }),
         None => Ok(()),
     }
 }
 
-fn check_nodes(tag: u8, conditions: u8, leaves: usize, nodes: &[Node]) -> Result<(), ModelFault>
-    ensures { Verdict (node_tests tag conditions leaves nodes.now) result }
+fn check_nodes(tag: Tag, conditions: u8, leaves: usize, nodes: &[Node]) -> Result<(), ModelFault>
+    ensures { Verdict (node_tests (code tag) conditions leaves nodes.now) result }
 {
-    match first_unlawful(
-        Domain {
-            conditions,
-            after: false,
-        },
+    let domain = Domain {
+        conditions,
+        after: false,
+    };
+    let list = NodeList {
+        domain,
         leaves,
         nodes,
-    ) {
-        Some(entry) => Err(ModelFault::UnlawfulNode { tag, entry }),
+    };
+    match list.first_unlawful() {
+        Some(entry) => Err(ModelFault::UnlawfulNode {
+            tag: tag.into(),
+            entry,
+        }),
         None => Ok(()),
     }
 }
 
-// How many leaves and nodes the reward table and the chance table have.
-#[derive(Clone, Copy)]
-struct Counts {
-    rewards: usize,
-    reward_nodes: usize,
-    chances: usize,
-    chance_nodes: usize,
-}
-
-fn is_named(counts: Counts, root: usize, reference: u32) -> bool
-    ensures { result ≡ is_named counts.rewards counts.reward_nodes counts.chances counts.chance_nodes root reference }
+// Whether root k names something in its table.
+fn is_named(lists: Held, k: usize, reference: u32) -> bool
+    ensures { result ≡ is_named (lists_in lists.entry) k reference }
 {
-    if root == 0 {
-        names_something(counts.rewards, counts.reward_nodes, reference)
+    if k == 0 {
+        names_something(lists.rewards.len(), lists.reward_nodes.len(), reference)
     } else {
-        names_something(counts.chances, counts.chance_nodes, reference)
+        names_something(lists.chances.len(), lists.chance_nodes.len(), reference)
     }
 }
 
-fn check_roots(counts: Counts, roots: &[u32]) -> Result<(), ModelFault>
-    ensures { Verdict (root_tests counts.rewards counts.reward_nodes counts.chances counts.chance_nodes roots.now) result }
+fn first_nameless(lists: Held) -> Option<usize>
+    ensures { FirstFailing (λ k. is_named (lists_in lists.entry) k (slice_index lists.entry.roots.now k)) (length lists.entry.roots.now) result }
 {
-    for k in 0..roots.len() {
-        if !is_named(counts, k, roots[k]) {
-            return Err(ModelFault::RootNamesNothing { entry: k });
-        }
-    }
-    Ok(())
+    lists
+        .roots
+        .iter()
+        .enumerate()
+        .position(|(k, root)| !is_named(lists, k, *root))
 }
 
-pub fn check_lists(
-    conditions: u8,
-    moves: u8,
-    discount: u16,
-    rewards: &[i64],
-    chances: &[u16],
-    reward_nodes: &[Node],
-    chance_nodes: &[Node],
-    roots: &[u32],
-) -> Result<(), ModelFault>
-    ensures { Verdict (model_tests conditions moves discount (five rewards.now chances.now reward_nodes.now chance_nodes.now roots.now)) result }
+fn check_roots(lists: Held) -> Result<(), ModelFault>
+    ensures { Verdict (root_tests (lists_in lists.entry)) result }
 {
-    check_sizes(conditions, moves, discount)?;
-    check_limits(2, rewards)?;
-    check_limits(3, chances)?;
-    check_nodes(4, conditions, rewards.len(), reward_nodes)?;
-    check_nodes(5, conditions, chances.len(), chance_nodes)?;
-    let counts = Counts {
-        rewards: rewards.len(),
-        reward_nodes: reward_nodes.len(),
-        chances: chances.len(),
-        chance_nodes: chance_nodes.len(),
-    };
-    check_roots(counts, roots)
+    match first_nameless(lists) {
+        Some(entry) => Err(ModelFault::RootNamesNothing { entry }),
+        None => Ok(()),
+    }
+}
+
+pub fn check_lists(sizes: Sizes, lists: Held) -> Result<(), ModelFault>
+    ensures { Verdict (model_tests sizes.conditions sizes.moves sizes.discount (lists_in lists.entry)) result }
+{
+    let conditions = sizes.conditions;
+    check_sizes(sizes)?;
+    check_limits(RewardLimits, Tag::Rewards, lists.rewards)?;
+    check_limits(ChanceLimits, Tag::Chances, lists.chances)?;
+    check_nodes(
+        Tag::RewardNodes,
+        conditions,
+        lists.rewards.len(),
+        lists.reward_nodes,
+    )?;
+    check_nodes(
+        Tag::ChanceNodes,
+        conditions,
+        lists.chances.len(),
+        lists.chance_nodes,
+    )?;
+    check_roots(lists)
 }

@@ -1,19 +1,6 @@
-use Rattle.std.proofs.Common.{refl, arith, rules}
-use Rattle.build.proofs.Extents.{stands, lawful_extent}
+use Rattle.std.proofs.Common.{rules}
+use Rattle.build.proofs.Extents.{lawful_in_longer}
 use Rattle.build.proofs.build.build.Goals as goal
 
-pub returns : goal.returns
-returns g c =
-    let e = c.in_ok-root.ensures in
-    let l = c.combine.new.leaves in
-    let k = c.combine.new.nodes in
-    let r = c.in_ok-root.root in
-    record {
-      built = rw c.extent_of.ensures (stands g.C.Out.Interned.equal _ _ l k r e.combined _ _ (search rules) (search rules) c.args.capacity e.leaves_stay.capacity e.nodes_stay.capacity);
-      lawful =
-          rw c.extent_of.ensures
-          (lawful_extent g.C.Out.Interned.equal _ _ l k r e.combined _ _ refl (search rules) (record { means = g.met.C.Out.Interned.means; self = g.met.C.Out.Interned.reflexive })
-          (omega (arith, e.leaves_stay.capacity, c.requires.roomy.small)));
-      ready = search rules;
-      lent = search rules;
-    }
+pub returns-clause-lawful : goal.returns-clause-lawful
+returns-clause-lawful g c = lawful_in_longer g.C.Out.Interned.equal _ _ _ c.fill.new.leaves c.fill.new.nodes _ c.fill.result (search rules) c.fill.ensures.built c.fill.ensures.lawful

@@ -3,4 +3,4 @@ use Rattle.sources.specs.Spots.{levels}
 use Rattle.combine.proofs.combine.+visit.Given as goal
 
 abbrev pub decreases-visit : goal.decreases-visit
-decreases-visit g l = levels l.sources - l.from
+decreases-visit g l = levels l.reading.sources - l.from

@@ -1,29 +1,41 @@
-use Rattle.std.proofs.Common.{◌≡◌, ◌+◌, ◌-◌, ◌*◌, ◌/◌, ◌≤◌, length, take, drop, set, ap, ◌∙◌, arith, rules}
-use Rattle.model_file.specs.Entries.{bytes_of}
-use Rattle.model_file.proofs.Written.{entry_within, entry_more}
+use Rattle.std.proofs.Common.{◌≡◌, ◌+◌, ◌<◌, ◌/◌, ◌++◌, length, set, sym, ap, ◌∙◌, arith, rules}
+use Rattle.std.specs.Slice.Iter.{chunks_exact_rest, chunks_exact_size}
+use Rattle.std.specs.Iterator.Adapters.{enumerate_source, enumerate_count}
+use Rattle.model_file.specs.Entries.{first_entries, written, bytes_of}
+use Rattle.model_file.proofs.Chunks.{AtChunk, chunk_next, chunk_last}
+use Rattle.model_file.proofs.Written.{entry_more}
 use Rattle.model_file.proofs.append.write_entries.Given as given
 use Rattle.model_file.proofs.append.write_entries.Goals as goal
 
-within : (g : given.Over) (c : goal.In-loop-j g) → c.loop-j.j * c.size-size.result + c.size-size.result ≤ length c.args.body.now
-within g c = entry_within _ _ _ (omega (arith, g.met.E.Entry.some)) c.loop-j-test.true
+turn : (g : given.Over) (c : goal.After-decode g) → (c.in-Some.bytes.now ≡ bytes_of g.E.Entry.SIZE c.args.body.now (enumerate_count c.loop-j.j-iterator))
+    × (enumerate_count c.loop-j.j-iterator < length c.args.body.now / g.E.Entry.SIZE)
+    × AtChunk g.E.Entry.SIZE (enumerate_count c.next.new.self) (chunks_exact_size (enumerate_source c.next.new.self)) c.args.body.now (chunks_exact_rest (enumerate_source c.next.new.self))
+turn g c =
+    let s = c.in-Some.ensures.steps in
+    chunk_next _ _ _ c.args.body.now _ c.loop-j.invariant.0 _ _ _ _ g.met.E.Entry.some s.0.1.0 s.0.1.1 s.2 s.0.0
 
-pub overflow_mul-from : goal.overflow_mul-from
-overflow_mul-from g c = let t = within g c in search rules
-
-pub overflow_add-from : goal.overflow_add-from
-overflow_add-from g c = let t = within g c in search rules
-
-pub slice_bounds-decode-end : goal.slice_bounds-decode-end
-slice_bounds-decode-end g c = let t = within g c in search rules
+pub offset_bounds-list-at : goal.offset_bounds-list-at
+offset_bounds-list-at g c =
+    let inside : c.args.at + c.in-Some.j < length c.args.list.now = omega (arith, c.requires, (turn g c).1, c.in-Some.ensures.steps.1) in
+    search rules
 
 pub loop-j-preserved : goal.loop-j-preserved
-loop-j-preserved g c xs old long was =
-    let w = g.E.Entry.width in
-    let body = c.args.body.now in
-    let j = c.loop-j.j in
-    let size = c.size-size.result in
-    let part : take (j * size + size - j * size) (drop (j * size) body) ≡ bytes_of w body j =
-    ap (λ k. take k (drop (j * size) body)) (omega arith) ∙ ap (λ k. take k (drop (j * k) body)) c.size-size.ensures in
-    let told : c.decode.result ≡ g.E.Entry.meaning (bytes_of w body j) = c.decode.ensures ∙ ap g.E.Entry.meaning part in
-    ap (set c.loop-j.list (c.args.at + j)) told
-    ∙ entry_more w g.E.Entry.meaning body xs old c.loop-j.list c.args.at j long (omega (arith, c.requires, ap (λ k. length body / k) c.size-size.ensures)) (c.loop-j.invariant xs old long was)
+loop-j-preserved g c = (
+  (turn g c).2,
+  λ xs old long was.
+      let e = g.E.Entry in
+      let s = c.in-Some.ensures.steps in
+      let j = enumerate_count c.loop-j.j-iterator in
+      let t = turn g c in
+      let told : c.decode.result ≡ e.meaning (bytes_of e.SIZE c.args.body.now j) = c.decode.ensures ∙ ap e.meaning t.0 in
+      ap (λ k. set c.loop-j.list (c.args.at + k) c.decode.result) s.1 ∙ ap (set c.loop-j.list (c.args.at + j)) told
+      ∙ entry_more e.SIZE e.meaning c.args.body.now xs old c.loop-j.list c.args.at j long (omega (arith, c.requires, t.1)) (c.loop-j.invariant.1 xs old long was)
+      ∙ ap (λ k. written (xs ++ first_entries e.SIZE e.meaning c.args.body.now k) old) (sym s.2),
+)
+
+pub returns : goal.returns
+returns g c xs old long was =
+    let e = g.E.Entry in
+    let s = c.in-None.ensures.steps in
+    let all = chunk_last _ _ _ c.args.body.now _ c.loop-j.invariant.0 s.0.1.0 in
+    c.loop-j.invariant.1 xs old long was ∙ ap (λ k. written (xs ++ first_entries e.SIZE e.meaning c.args.body.now k) old) (sym all)

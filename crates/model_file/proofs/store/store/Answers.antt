@@ -1,30 +1,28 @@
-use Rattle.std.proofs.Common.{ap, rules}
-use Rattle.model_file.specs.Entries.{reward_of, chance_of, node_of, root_of}
+use Rattle.std.proofs.Common.{ap, refl, rules}
 use Rattle.model_file.specs.Fields.{tag_of, body_of}
-use Rattle.model_file.proofs.Stored.{joined, stored_as}
+use Rattle.model_file.proofs.Stored.{joined, stored_field}
 use Rattle.model_file.proofs.store.store.Goals as goal
+use Rattle.model_file.proofs.store.store.Goals.{in-Sizes, in-Rewards+in_ok-draft-in-Rewards, in-Chances+in_ok-draft-in-Chances, in-RewardNodes+in_ok-draft-in-RewardNodes, in-ChanceNodes+in_ok-draft-in-ChanceNodes, in-Roots+in_ok-roots-in-Roots}
 
-pub returns-in_ok-rewards-in-Rewards : goal.returns-in_ok-rewards-in-Rewards
-returns-in_ok-rewards-in-Rewards c t old marked held =
-    let j = joined 8 reward_of _ t.lists.rewards old.rewards _ _ _ _ (ap (λ m. m.draft.rewards) marked) (ap (λ l. l.rewards) held) c.in_ok-rewards-in-Rewards.ensures in
-    stored_as c.args.field 2 _ t old _ _ _ (ap tag_of c.in-Rewards.is) (ap body_of c.in-Rewards.is) (record { room = j.room; marked = search rules; kept = search rules })
-
-pub returns-in_ok-chances-in-Chances : goal.returns-in_ok-chances-in-Chances
-returns-in_ok-chances-in-Chances c t old marked held =
-    let j = joined 2 chance_of _ t.lists.chances old.chances _ _ _ _ (ap (λ m. m.draft.chances) marked) (ap (λ l. l.chances) held) c.in_ok-chances-in-Chances.ensures in
-    stored_as c.args.field 3 _ t old _ _ _ (ap tag_of c.in-Chances.is) (ap body_of c.in-Chances.is) (record { room = j.room; marked = search rules; kept = search rules })
-
-pub returns-in_ok-reward_nodes-in-RewardNodes : goal.returns-in_ok-reward_nodes-in-RewardNodes
-returns-in_ok-reward_nodes-in-RewardNodes c t old marked held =
-    let j = joined 9 node_of _ t.lists.reward_nodes old.reward_nodes _ _ _ _ (ap (λ m. m.draft.reward_nodes) marked) (ap (λ l. l.reward_nodes) held) c.in_ok-reward_nodes-in-RewardNodes.ensures in
-    stored_as c.args.field 4 _ t old _ _ _ (ap tag_of c.in-RewardNodes.is) (ap body_of c.in-RewardNodes.is) (record { room = j.room; marked = search rules; kept = search rules })
-
-pub returns-in_ok-chance_nodes-in-ChanceNodes : goal.returns-in_ok-chance_nodes-in-ChanceNodes
-returns-in_ok-chance_nodes-in-ChanceNodes c t old marked held =
-    let j = joined 9 node_of _ t.lists.chance_nodes old.chance_nodes _ _ _ _ (ap (λ m. m.draft.chance_nodes) marked) (ap (λ l. l.chance_nodes) held) c.in_ok-chance_nodes-in-ChanceNodes.ensures in
-    stored_as c.args.field 5 _ t old _ _ _ (ap tag_of c.in-ChanceNodes.is) (ap body_of c.in-ChanceNodes.is) (record { room = j.room; marked = search rules; kept = search rules })
-
-pub returns-in_ok-roots-in-Roots : goal.returns-in_ok-roots-in-Roots
-returns-in_ok-roots-in-Roots c t old marked held =
-    let j = joined 4 root_of _ t.lists.roots old.roots _ _ _ _ (ap (λ m. m.roots) marked) (ap (λ l. l.roots) held) c.in_ok-roots-in-Roots.ensures in
-    stored_as c.args.field 6 _ t old _ _ _ (ap tag_of c.in-Roots.is) (ap body_of c.in-Roots.is) (record { room = j.room; marked = search rules; kept = search rules })
+pub returns-clause-stored : goal.returns-clause-stored
+returns-clause-stored c t old marked was =
+    let a = c.after.ensures in
+    elim c.match-field.branch [
+      | in-Sizes w ↦
+          stored_field c.args.field 1 t old marked (ap tag_of w.in-Sizes.is) a.place a.last a.draft a.roots refl (search rules) (search rules) (search rules)
+      | in-Rewards+in_ok-draft-in-Rewards w ↦
+          let j = joined t.lists.rewards old.rewards (ap body_of w.in-Rewards.is) (ap (λ d. d.rewards) marked.draft) (ap (λ l. l.rewards) was) w.in_ok-draft-in-Rewards.ensures in
+          stored_field c.args.field 2 t old marked (ap tag_of w.in-Rewards.is) a.place a.last a.draft a.roots j.room (search rules) (search rules) (search rules)
+      | in-Chances+in_ok-draft-in-Chances w ↦
+          let j = joined t.lists.chances old.chances (ap body_of w.in-Chances.is) (ap (λ d. d.chances) marked.draft) (ap (λ l. l.chances) was) w.in_ok-draft-in-Chances.ensures in
+          stored_field c.args.field 3 t old marked (ap tag_of w.in-Chances.is) a.place a.last a.draft a.roots j.room (search rules) (search rules) (search rules)
+      | in-RewardNodes+in_ok-draft-in-RewardNodes w ↦
+          let j = joined t.lists.reward_nodes old.reward_nodes (ap body_of w.in-RewardNodes.is) (ap (λ d. d.reward_nodes) marked.draft) (ap (λ l. l.reward_nodes) was) w.in_ok-draft-in-RewardNodes.ensures in
+          stored_field c.args.field 4 t old marked (ap tag_of w.in-RewardNodes.is) a.place a.last a.draft a.roots j.room (search rules) (search rules) (search rules)
+      | in-ChanceNodes+in_ok-draft-in-ChanceNodes w ↦
+          let j = joined t.lists.chance_nodes old.chance_nodes (ap body_of w.in-ChanceNodes.is) (ap (λ d. d.chance_nodes) marked.draft) (ap (λ l. l.chance_nodes) was) w.in_ok-draft-in-ChanceNodes.ensures in
+          stored_field c.args.field 5 t old marked (ap tag_of w.in-ChanceNodes.is) a.place a.last a.draft a.roots j.room (search rules) (search rules) (search rules)
+      | in-Roots+in_ok-roots-in-Roots w ↦
+          let j = joined t.lists.roots old.roots (ap body_of w.in-Roots.is) marked.roots (ap (λ l. l.roots) was) w.in_ok-roots-in-Roots.ensures in
+          stored_field c.args.field 6 t old marked (ap tag_of w.in-Roots.is) a.place a.last a.draft a.roots j.room (search rules) (search rules) (search rules)
+    ]

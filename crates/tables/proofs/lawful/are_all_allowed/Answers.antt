@@ -1,12 +1,8 @@
-use Rattle.std.proofs.Common.{sym, ap, ◌∙◌, arith}
-use Rattle.std.proofs.lemmas.List.{get_or_read}
-use Rattle.tables.proofs.Below.{decides_below, fails_below}
+use native.Mathlib.Nat.{sub-zero}
+use Rattle.tables.proofs.Below.{none_outside}
 use Rattle.tables.proofs.lawful.are_all_allowed.Goals as goal
 
-pub returns-then-not-allows : goal.returns-then-not-allows
-returns-then-not-allows g c =
-    let read = get_or_read c.args.leaves.now c.loop-k.k c.index-leaves-k.result (omega arith) c.index-leaves-k.is g.K.Leaf.Interned.blank in
-    sym (fails_below _ _ c.loop-k.k c.loop-k-test.true (ap (g.K.Limits.within c.args.limits) (sym read) ∙ sym c.if-not-allows.ensures))
-
 pub returns : goal.returns
-returns g c = sym ((decides_below _ _).1 (λ k h. c.loop-k.invariant k (omega arith)))
+returns g c =
+    let first = simp sub-zero at c.first_outside.ensures in
+    none_outside (g.K.Limits.within c.args.limits) g.K.Leaf.Interned.blank c.args.leaves.now c.args.count c.first_outside.result c.is_none.result c.requires c.is_none.ensures first

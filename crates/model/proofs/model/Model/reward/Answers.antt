@@ -7,6 +7,6 @@ pub look-requires : goal.look-requires
 look-requires c =
     let x = c.args.self.now in
     record {
-      lawful = reward_table x.conditions x.moves x.discount (lists_of x) x.lawful;
-      named = reward_root_named x.conditions x.moves x.discount (lists_of x) x.lawful (omega (arith, x.rooted));
+      lawful = reward_table x.sizes.conditions x.sizes.moves x.sizes.discount (lists_of x) x.lawful;
+      named = reward_root_named x.sizes.conditions x.sizes.moves x.sizes.discount (lists_of x) x.lawful (omega (arith, x.rooted));
     }
