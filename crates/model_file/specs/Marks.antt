@@ -1,6 +1,6 @@
 -- What the reader keeps of a reading, and what it does with one field.
 --     Marks mark t             mark is the mark of how far t has come
---     with_sizes d b           the draft d with the sizes that stand in the body b
+--     sizes_in b               the sizes that stand in the body b
 --     Stores k b now now' mark r    the field of tag k and body b is stored in the lists, which held `now` and then hold now', and r is the next mark; or it has no room
 use Rattle.std.specs.Prelude.{◌≡◌, ℕ, true, false, List, length, Result, MatchResult, slice_index}
 use Rattle.faults.specs.declared.FileFault.{FileFault}

@@ -47,9 +47,12 @@ pub fn recall(entries: &[Entry], stamp: u32, at: Spot) -> Option<u32>
     }
 }
 
-// Makes every entry one of the stamp 0.
+// Makes every entry one of the stamp 0. What else an entry holds stays, so `fill` would not do; and by its place, since after
+// an `iter_mut` only the length of a list is known.
 pub fn wipe(entries: &mut [Entry])
     ensures { Stamped entries.new 0 }
 {
-    entries.fill(Entry::default());
+    for j in 0..entries.len() {
+        entries[j].stamp = 0;
+    }
 }

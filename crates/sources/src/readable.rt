@@ -1,7 +1,7 @@
 // The test that three diagrams can be read together, for callers that know nothing of them.
 ghost use Rattle.std.specs.Prelude.{◌≡◌, ◌+◌, true, length, Decides, MatchOption};
 ghost use Rattle.diagram.specs.Lawful.{Lawful};
-ghost use Rattle.sources.specs.Inputs.{Readable, LawfullyRead};
+ghost use Rattle.sources.specs.Inputs.{Named, Readable, LawfullyRead};
 ghost use Rattle.sources.specs.Spots.{AllLawfullyRead};
 
 use crate::input::Input;
@@ -23,16 +23,13 @@ impl<L> Input<'_, L> {
         list.first_unlawful().is_none()
     }
 
-    // Whether a diagram is lawful as it is read, and its root names something. Over the conditions after a move only a table over states is read.
-    fn is_readable(self, conditions: u8) -> bool
+    // Whether a diagram is lawful as it is read, and a root names something in it. Over the conditions after a move only a table over states is read.
+    fn is_readable(self, conditions: u8, root: u32) -> bool
         ensures readable { result ≡ true → Readable self.entry (conditions + conditions) }
-        ensures exactly { Decides result (LawfullyRead conditions self.entry) }
+        ensures named { result ≡ true → Named self.entry root }
+        ensures exactly { root ≡ self.entry.table.root → Decides result (LawfullyRead conditions self.entry) }
     {
-        let Table {
-            leaves,
-            nodes,
-            root,
-        } = self.table;
+        let Table { leaves, nodes, .. } = self.table;
         if !names_something(leaves.len(), nodes.len(), root) {
             return false;
         }
@@ -50,9 +47,9 @@ impl<'a, 'b, 'c, A, B, C> Reading<'a, 'b, 'c, A, B, C> {
         ensures { MatchOption result (AllLawfullyRead sources.entry → ⊥) (λ reading. reading.sources ≡ sources.entry) }
     {
         let n = sources.conditions;
-        if sources.first.is_readable(n)
-            && sources.second.is_readable(n)
-            && sources.third.is_readable(n)
+        if sources.first.is_readable(n, sources.first.table.root)
+            && sources.second.is_readable(n, sources.second.table.root)
+            && sources.third.is_readable(n, sources.third.table.root)
         {
             Some(Reading { sources })
         } else {

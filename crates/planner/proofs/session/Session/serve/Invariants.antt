@@ -1,9 +1,8 @@
 use Rattle.std.proofs.Common.{◌≤◌}
-use Rattle.std.specs.Io.Iter.{pieces_left_to_read}
 use Rattle.planner.proofs.session.Session.serve.Given as goal
 
-abbrev pub invariant-loop-line : goal.invariant-loop-line
-invariant-loop-line g l = pieces_left_to_read l.self.lines ≤ pieces_left_to_read l.fn.self.lines
+abbrev pub invariant-loop-self : goal.invariant-loop-self
+invariant-loop-self g l = l.self.turns ≤ l.fn.self.turns
 
-abbrev pub decreases-loop-line : goal.decreases-loop-line
-decreases-loop-line g l = pieces_left_to_read l.self.lines
+abbrev pub decreases-loop-self : goal.decreases-loop-self
+decreases-loop-self g l = l.self.turns
